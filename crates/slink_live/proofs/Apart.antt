@@ -7,12 +7,10 @@ use Rattle.slink_feed.specs.declared.session.Phase.TheVariants as Phases
 use Rattle.slink_feed.specs.Session.{Grants, IsWaiting, State, has_sent_all, at_next, grant_at, has_sent, packet_at}
 use Rattle.slink_feed.specs.Session.{sent, sent_in, sent_of}
 use Rattle.slink_feed.specs.Window.{Window, record_at}
-use Rattle.slink_live.specs.declared.places.Places.{Places}
 use Rattle.slink_live.specs.declared.ready.Interest.{Interest}
 use Rattle.slink_live.specs.Awake.{AreSame, IsClosable, IsLost, IsUpToDate, Sleeps, has_all, is_lost, must_close, waits}
 use Rattle.slink_live.specs.Awake.{writes}
 use Rattle.slink_live.specs.Served.{LinkState}
-use Rattle.slink_live.specs.private.Granting.{LeavesOut, StaysBut}
 use Rattle.std.proofs.lemmas.Option.{same_Some}
 
 one_done : (w v : Window) (o : Option Grant) → ((g : Grant) → o ≡ Some g → Some v ≡ Some w)
@@ -87,7 +85,7 @@ module _ (old new : List Window) (l : LinkState) (long : length new ≡ length o
   sleeps_on w (writes some wants) = writes some wants
   sleeps_on w (waits none wants waiting) = waits none wants (waits_on old new l.session.state long alike waiting)
 
-  updated_on : (has_ended : Bool) (w : Interest) → IsUpToDate old has_ended l w → IsUpToDate new has_ended l w
+  pub updated_on : (has_ended : Bool) (w : Interest) → IsUpToDate old has_ended l w → IsUpToDate new has_ended l w
   updated_on has_ended w up_to_date = record {
     stands = λ c. up_to_date.stands (was_closable has_ended c);
     sleeps = sleeps_on w up_to_date.sleeps;
@@ -99,10 +97,3 @@ module _ (old new : List Window) (l : LinkState) (long : length new ≡ length o
     reads = up_to_date.reads;
     streams = up_to_date.streams;
   }
-
--- A link that is sent no records of the stations that got some.
-pub updated_apart : (old new : List Window) (places : Places) (o : Option LinkState) (l : LinkState)
-    → length new ≡ length old → StaysBut places old new → LeavesOut places o → o ≡ Some l
-    → (has_ended : Bool) (w : Interest) → IsUpToDate old has_ended l w → IsUpToDate new has_ended l w
-updated_apart old new places o l long stays out is =
-    updated_on old new l long (λ streams k g granted. stays k (out l is streams k g granted))

@@ -5,6 +5,7 @@ use Rattle.std.proofs.lemmas.Option.{none-some, same_Some}
 use Rattle.std.specs.List.{AllByRecursion}
 use Rattle.slink_feed.specs.Window.{Window}
 use Rattle.slink_feed.specs.Intake.{places_of}
+use Rattle.slink_live.specs.declared.intake.TheConstants.{INPUT}
 use Rattle.slink_live.specs.Awake.{IsAwake}
 use Rattle.slink_live.specs.Served.{AreEmpty, IsBelow, IsServing, IsSound, LinkState, ServerState}
 use Rattle.slink_live.specs.History.{no_event}
@@ -42,7 +43,7 @@ module _ (feed : List Window) (links : List (Option LinkState)) (none : AreEmpty
     counted = refl;
     goes_on = λ e. refl;
     read = refl;
-    slots = λ k. record { reported = None; served = no_event; matches = rw (none k) tt };
+    slots = λ k. record { past = None; served = no_event; matches = rw (none k) tt };
   }
 
   pub begun_sound : AllByRecursion (λ (w : Window). w.next ≤ 2 ^ 62) feed → IsSound begun
@@ -51,7 +52,7 @@ module _ (feed : List Window) (links : List (Option LinkState)) (none : AreEmpty
     begins = λ e. inl refl;
     fit = λ k l e. absurd (no_link k l e);
     below = all_below (2 ^ 62) feed below;
-    few = let le : 0 ≤ 8192 * 0 = omega arith in le;
+    few = let le : 0 ≤ INPUT * 0 = omega arith in le;
     few_reads = let le : 0 ≤ 2 ^ 40 = omega arith in le;
   }
 

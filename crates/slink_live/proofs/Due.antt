@@ -1,18 +1,14 @@
 -- Of which stations of a link a record is due.
-use Rattle.std.proofs.Common.{◌≡◌, ◌≢◌, ◌↔◌, ◌⊎◌, ℕ, ◌+◌, ◌<◌, ◌∙◌, ap, subst, sym, refl, arith, inl, inr, Bool}
-use Rattle.std.proofs.Common.{true, false, List, length, length-append, Option, Some, None, slice_get}
+use Rattle.std.proofs.Common.{◌≡◌, ◌≢◌, ◌↔◌, ◌⊎◌, ℕ, ◌+◌, ◌<◌, ◌≤◌, ◌∙◌, ap, subst, sym, refl, arith, inl, inr, Bool}
+use Rattle.std.proofs.Common.{true, false, List, length}
 use Rattle.std.specs.Bool.{OnFalse, OnTrue}
-use Rattle.slink_feed.specs.declared.grant.Grant.{Grant}
-use Rattle.slink_feed.specs.declared.session.Phase.{Phase}
 use Rattle.slink_feed.specs.declared.session.Phase.TheVariants as Phases
 use Rattle.slink_feed.specs.declared.session.Sent.{Sent}
 use Rattle.slink_feed.specs.declared.session.Sent.TheVariants as Sents
-use Rattle.slink_feed.specs.Session.{Grants, IsAtNext, IsWaiting, State, has_sent_all, at_next, grant_at, sent}
-use Rattle.slink_feed.specs.Session.{sent_bytes, sent_in, sent_of}
+use Rattle.slink_feed.specs.Session.{Grants, IsAtNext, IsWaiting, State, grant_at, sent}
 use Rattle.slink_feed.specs.Window.{Window}
-use Rattle.slink_feed.proofs.Done.{some_at}
+use Rattle.slink_feed.proofs.Calls.{Sends, is_packet, is_shut, is_waiting, sends}
 use Rattle.slink_feed.proofs.Items.{same_or_not}
-use Rattle.slink_feed.proofs.Reached.{sent_at_next}
 use Rattle.slink_feed.proofs.Waits.{sends_here, waits_beside}
 use Rattle.slink_live.specs.declared.places.Places.{Places}
 use Rattle.slink_live.specs.Served.{LinkState}
@@ -23,40 +19,6 @@ use Rattle.slink_live.specs.private.Granting.{AreDue, Has}
 use Rattle.slink_live.proofs.Fairness.{leaves, streams_or_closed}
 
 module _ (feed : List Window) (s : State) (due : Places) where
-  pub due_first : s.phase ≡ Phases.Streaming → ((k : ℕ) → ¬ (Has due k)) → AreDue feed s due 0
-  due_first streams none = record {
-    streams = streams;
-    within = λ j has. absurd (none j has);
-    ready = λ j has. absurd (none j has);
-    rest = λ j lt. absurd (omega (arith, lt));
-  }
-
-  pub due_past : (n : ℕ) → AreDue feed s due n → IsAtNext feed s.grants n → AreDue feed s due (n + 1)
-  due_past n d at = record {
-    streams = d.streams;
-    within = λ j has. (omega (arith, (d.within j has).0), (d.within j has).1);
-    ready = d.ready;
-    rest = λ j lt none. elim (same_or_not j n) [
-      | inl same ↦ rw same at
-      | inr ne ↦ d.rest j (omega (arith, lt, ne)) none
-    ];
-  }
-
-  pub due_more : (all : Places) (n : ℕ) → AreDue feed s due n → n < 16 → ¬ (IsAtNext feed s.grants n) → Has all n
-      → ((j : ℕ) → j ≢ n → Has all j ↔ Has due j) → AreDue feed s all (n + 1)
-  due_more all n d few off here others = record {
-    streams = d.streams;
-    within = λ j has. elim (same_or_not j n) [
-      | inl same ↦ (omega (arith, same), omega (arith, same, few))
-      | inr ne ↦ let before = d.within j ((others j ne).0 has) in (omega (arith, before.0), before.1)
-    ];
-    ready = λ j has. elim (same_or_not j n) [ inl same ↦ rw same off | inr ne ↦ d.ready j ((others j ne).0 has) ];
-    rest = λ j lt none. elim (same_or_not j n) [
-      | inl same ↦ absurd (none (rw same here))
-      | inr ne ↦ d.rest j (omega (arith, lt, ne)) (λ has. none ((others j ne).1 has))
-    ];
-  }
-
   -- It is the turn of the first of them.
   pub due_turn : (ring k : ℕ) → AreDue feed s due (length feed) → Has due k
       → ((j : ℕ) → IsEarlier ring j k → ¬ (Has due j)) → IsTurn feed s ring k
@@ -73,6 +35,37 @@ same_next : (feed : List Window) (gs hs : Grants) (j : ℕ) → grant_at hs j �
     → IsAtNext feed hs j
 same_next feed gs hs j same at g w granted there = at g w (sym same ∙ granted) there
 
+-- They are known of one station more, or anew of one that was called; of the others nothing changes.
+module _ (feed : List Window) (s t : State) (due all : Places) (n m k : ℕ) where
+  due_at : AreDue feed s due n → t.phase ≡ Phases.Streaming → n ≤ m → ((j : ℕ) → j < m → j ≢ k → j < n)
+      → ((j : ℕ) → j ≢ k → grant_at t.grants j ≡ grant_at s.grants j) → ((j : ℕ) → j ≢ k → Has all j → Has due j)
+      → ((j : ℕ) → j < 16 → j ≢ k → Has due j → Has all j)
+      → (Has all k → (k < m) × (k < 16) × ¬ (IsAtNext feed t.grants k)) → (¬ (Has all k) → IsAtNext feed t.grants k)
+      → AreDue feed t all m
+  due_at d streams le below same fewer others off at = record {
+    streams = streams;
+    within = λ j has. elim (same_or_not j k) [
+      | inl is ↦ let here = off (rw is at has) in rw is (here.0, here.1)
+      | inr ne ↦ let before = d.within j (fewer j ne has) in (omega (arith, before.0, le), before.1)
+    ];
+    ready = λ j has. elim (same_or_not j k) [
+      | inl is ↦ rw is (off (rw is at has)).2
+      | inr ne ↦ λ here. d.ready j (fewer j ne has) (same_next feed t.grants s.grants j (sym (same j ne)) here)
+    ];
+    rest = λ j lt none. elim (same_or_not j k) [
+      | inl is ↦ rw is (at (rw is at none))
+      | inr ne ↦ same_next feed s.grants t.grants j (same j ne)
+          (d.rest j (below j lt ne) (λ has. none (others j (d.within j has).1 ne has)))
+    ];
+  }
+
+pub due_on : (feed : List Window) (s : State) (due all : Places) (n : ℕ) → AreDue feed s due n
+    → ((j : ℕ) → j ≢ n → Has all j ↔ Has due j) → (Has all n → (n < 16) × ¬ (IsAtNext feed s.grants n))
+    → (¬ (Has all n) → IsAtNext feed s.grants n) → AreDue feed s all (n + 1)
+due_on feed s due all n d others off at = due_at feed s s due all n (n + 1) n d d.streams (omega arith)
+    (λ j lt ne. omega (arith, lt, ne)) (λ j ne. refl) (λ j ne has. (others j ne).0 has)
+    (λ j lt ne has. (others j ne).1 has) (λ has. (omega arith, (off has).0, (off has).1)) at
+
 -- A station of which one is due was called: it alone may be no more of those.
 pub due_after : (feed : List Window) (s t : State) (due : Places) (k : ℕ) (a : Sent) → AreDue feed s due (length feed)
     → Has due k → sent feed s k ≡ (t, a) → (result : Places) → ((j : ℕ) → j ≢ k → Has result j → Has due j)
@@ -82,60 +75,32 @@ pub due_after : (feed : List Window) (s t : State) (due : Places) (k : ℕ) (a :
 due_after feed s t due k a d has given result fewer others off at =
     elim (streams_or_closed feed s t k a d.streams given) [
       | inr shut ↦ inl shut
-      | inl streams ↦ inr (record {
-        streams = streams;
-        within = λ j there. elim (same_or_not j k) [
-          | inl same ↦ rw same (d.within k has)
-          | inr ne ↦ d.within j (fewer j ne there)
-        ];
-        ready = λ j there. elim (same_or_not j k) [
-          | inl same ↦ rw same (off (rw same at there))
-          | inr ne ↦ λ here. d.ready j (fewer j ne there)
-              (same_next feed t.grants s.grants j (sym (leaves feed s t k j a ne given).grant) here)
-        ];
-        rest = λ j lt none. elim (same_or_not j k) [
-          | inl same ↦ rw same (at streams (rw same at none))
-          | inr ne ↦ same_next feed s.grants t.grants j (leaves feed s t k j a ne given).grant
-              (d.rest j lt (λ there. none (others j (d.within j there).1 ne there)))
-        ];
-      })
+      | inl streams ↦ let here = d.within k has in
+          inr (due_at feed s t due result (length feed) (length feed) k d streams (omega arith) (λ j lt ne. lt)
+          (λ j ne. (leaves feed s t k j a (λ g granted. ne) given).grant) fewer others
+          (λ still. (here.0, here.1, off still)) (at streams))
     ]
 
-pub on_true : {P Q : Type 0} → (b : Bool) → OnTrue b P → OnFalse b Q → ¬ Q → P
-on_true true is not_so never = is
-on_true false is not_so never = absurd (never not_so)
-
--- so much longer is what is pending, unless the session is closed
-pub grown_by : (feed : List Window) (k : ℕ) (old new : LinkState) → Gives feed k old new
-    → (new.session.state.phase ≡ Phases.Closed) ⊎ (length new.pending ≡ length old.pending + 520)
-grown_by feed k old new g = elim g.grows [
-  | inl shut ↦ inl shut
-  | inr more ↦ inr (omega (arith, more, ap length g.pending, length-append old.pending (sent_bytes g.answer)))
-]
+-- a station that is due gives something
+pub gives_due : (feed : List Window) (due : Places) (k : ℕ) (old new : LinkState) (b : Bool)
+    → AreDue feed old.session.state due (length feed) → Has due k → OnTrue b (Gives feed k old new)
+    → OnFalse b (sent feed old.session.state k ≡ (old.session.state, Sents.Wait)) → Gives feed k old new
+gives_due feed due k old new true d has gives waits = gives
+gives_due feed due k old new false d has gives waits =
+    absurd (sends_here feed old.session.state k d.streams (d.within k has).0 (d.ready k has) waits)
 
 -- where no record is due, what is sent closes the session
-closed_next : (b : Bool) (s t : State) (a : Sent) → at_next b s ≡ (t, a) → ¬ (at_next b s ≡ (s, Sents.Wait))
-    → t.phase ≡ Phases.Closed
-closed_next true s t a e sends = ap (λ (p : State × Sent). p.0.phase) (sym e)
-closed_next false s t a e sends = absurd (sends refl)
-
-closed_of : (feed : List Window) (s t : State) (k : ℕ) (a : Sent) (o : Option Grant) → grant_at s.grants k ≡ o
-    → s.phase ≡ Phases.Streaming → k < length feed → IsAtNext feed s.grants k → sent feed s k ≡ (t, a)
-    → ¬ (sent feed s k ≡ (s, Sents.Wait)) → t.phase ≡ Phases.Closed
-closed_of feed s t k a None granted streams lt at given sends =
-    absurd (sends (ap (λ (p : Phase). sent_in p feed s k) streams
-    ∙ ap (λ (o : Option Grant). sent_of feed s k o (slice_get feed k)) granted))
-closed_of feed s t k a (Some g) granted streams lt at given sends =
-    let here = some_at feed k lt in
-    let is = sent_at_next feed s k g here.0 (here.0).next streams granted here.1 refl (at g here.0 granted here.1) in
-    closed_next (has_sent_all feed s.grants) s t a (sym is ∙ given) (λ e. sends (is ∙ e))
+closed_by : (feed : List Window) (s : State) (k : ℕ) (x : State × Sent) → Sends feed s k x → IsAtNext feed s.grants k
+    → ¬ (x ≡ (s, Sents.Wait)) → x.0.phase ≡ Phases.Closed
+closed_by feed s k x (is_waiting h) at sends = absurd (sends refl)
+closed_by feed s k x (is_packet g w bytes on granted here off read) at sends = absurd (off (at g w granted here))
+closed_by feed s k x (is_shut shut) at sends = shut
+closed_by feed s k x closes at sends = refl
 
 pub gives_end : (feed : List Window) (k : ℕ) (old new : LinkState) → Gives feed k old new
-    → old.session.state.phase ≡ Phases.Streaming → k < length feed → IsAtNext feed old.session.state.grants k
-    → new.session.state.phase ≡ Phases.Closed
-gives_end feed k old new g streams lt at =
-    closed_of feed old.session.state new.session.state k g.answer (grant_at old.session.state.grants k) refl streams lt
-    at g.given g.sends
+    → IsAtNext feed old.session.state.grants k → new.session.state.phase ≡ Phases.Closed
+gives_end feed k old new g at = sym (ap (λ (x : State × Sent). x.0.phase) g.given)
+    ∙ closed_by feed old.session.state k _ (sends feed old.session.state k) at g.sends
 
 -- The session was called where no record is due, and it may have said that all is sent.
 module _ (feed : List Window) (old new : LinkState) where

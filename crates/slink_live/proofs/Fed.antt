@@ -24,16 +24,6 @@ fed_append feed (r ∷ rs) more = fed_append (pushed feed r) rs more
 pub below_more : (m n : ℕ) (feed : List Window) → m ≤ n → IsBelow m feed → IsBelow n feed
 below_more m n feed le below k w there = omega (arith, le, below k w there)
 
--- numbers go up by one
-set_below : (n : ℕ) (feed : List Window) (k : ℕ) (w : Window) (r : List ℕ) → slice_get feed k ≡ Some w → IsBelow n feed
-    → IsBelow (n + 1) (set feed k (with_record w r))
-set_below n feed k w r here below j v there = elim (eqb_tells j k) [
-  | inl same ↦ let one : with_record w r ≡ v = same_Some _ v (sym (get_here feed k (with_record w r)
-      (slice_get_within feed k w here)) ∙ rw same.1 at there) in
-      omega (arith, below k w here, ap (λ (y : Window). y.next) one)
-  | inr other ↦ omega (arith, below j v (sym (get_there feed k j (with_record w r) other.1) ∙ there))
-]
-
 -- The first ring of its station takes a record, if there is one.
 abbrev pub PushedOnce : List Window → List Window → List ℕ → Type 0
 PushedOnce feed new r = (new ≡ feed)
@@ -49,10 +39,16 @@ pub pushed_once : (feed : List Window) (r : List ℕ) → PushedOnce feed (pushe
 pushed_once [] r = inl refl
 pushed_once (v ∷ ws) r = once_if (is_of_station v.place r) v ws (pushed ws r) r (pushed_once ws r)
 
+-- numbers go up by one
 once_below : (n : ℕ) (feed new : List Window) (r : List ℕ) → PushedOnce feed new r → IsBelow n feed
     → IsBelow (n + 1) new
 once_below n feed new r (inl e) below = rw e (below_more n (n + 1) feed (omega arith) below)
-once_below n feed new r (inr e) below = rw e.3 (set_below n feed e.0 e.1 r e.2 below)
+once_below n feed new r (inr e) below = rw e.3 (λ j v there. elim (eqb_tells j e.0) [
+  | inl same ↦ let one : with_record e.1 r ≡ v = same_Some _ v (sym (get_here feed e.0 (with_record e.1 r)
+      (slice_get_within feed e.0 e.1 e.2)) ∙ rw same.1 at there) in
+      omega (arith, below e.0 e.1 e.2, ap (λ (y : Window). y.next) one)
+  | inr other ↦ omega (arith, below j v (sym (get_there feed e.0 j (with_record e.1 r) other.1) ∙ there))
+])
 
 once_fits : (feed new : List Window) (r : List ℕ) (s : State) → PushedOnce feed new r → Fits feed s → Fits new s
 once_fits feed new r s (inl e) fits = rw e fits
@@ -61,10 +57,12 @@ once_fits feed new r s (inr e) fits = fits_pushed feed new e.0 e.1 r s e.2 e.3 f
 -- each record takes the numbers up by one at most
 pub below_fed : (n : ℕ) (feed : List Window) (rs : List (List ℕ)) → IsBelow n feed
     → IsBelow (n + length rs) (fed feed rs)
-below_fed n feed [] below = below_more n (n + 0) feed (omega arith) below
-below_fed n feed (r ∷ rs) below =
-    below_more (n + 1 + length rs) (n + length (r ∷ rs)) (fed (pushed feed r) rs) (omega arith)
-    (below_fed (n + 1) (pushed feed r) rs (once_below n feed (pushed feed r) r (pushed_once feed r) below))
+below_fed n feed [] below k w there = omega (arith, below k w there)
+below_fed n feed (r ∷ rs) below k w there = omega (
+  arith,
+  below_fed (n + 1) (pushed feed r) rs
+      (once_below n feed (pushed feed r) r (pushed_once feed r) below) k w there,
+)
 
 -- a session that these rings serve is served on
 pub fits_fed : (feed : List Window) (rs : List (List ℕ)) (s : State) → Fits feed s → Fits (fed feed rs) s

@@ -6,20 +6,12 @@ use Rattle.std.proofs.lemmas.Nat.{div-add-mod', pow_pos}
 use Rattle.std.proofs.lemmas.Nat.Bits.{bit_at-zero, bit_at_cat_high}
 use Rattle.slink_live.specs.History.{IsEarlier}
 
-shifted : (n p i : ℕ) → bit_at n (p + i) ≡ bit_at (n / 2 ^ p) i
-shifted n p i =
-    let same : p + i - p ≡ i = omega arith in
-    ap (λ x. bit_at x (p + i)) (sym (div-add-mod' n (2 ^ p)))
-    ∙ (bit_at_cat_high (n / 2 ^ p) p (n % 2 ^ p) (p + i) (mod-lt n (pow_pos p)) (omega arith)
-    ∙ ap (bit_at (n / 2 ^ p)) same)
-
 not_both : (n : ℕ) → n ≡ 0 → ¬ (n ≡ 1)
 not_both n zero_is one_is = omega (arith, zero_is, one_is)
 
 shifted_from : (n p j : ℕ) → p ≤ j → bit_at n j ≡ bit_at (n / 2 ^ p) (j - p)
-shifted_from n p j le =
-    let same : p + (j - p) ≡ j = omega (arith, le) in
-    sym (ap (bit_at n) same) ∙ shifted n p (j - p)
+shifted_from n p j le = ap (λ x. bit_at x j) (sym (div-add-mod' n (2 ^ p)))
+    ∙ bit_at_cat_high (n / 2 ^ p) p (n % 2 ^ p) j (mod-lt n (pow_pos p)) le
 
 none_after : (n p j : ℕ) → n / 2 ^ p ≡ 0 → p ≤ j → bit_at n j ≡ 0
 none_after n p j none le = shifted_from n p j le ∙ (ap (λ x. bit_at x (j - p)) none ∙ bit_at-zero (j - p))
@@ -32,7 +24,7 @@ few_after rest p k none has = elim (leb_tells 32 p) [
 
 module _ (n p k : ℕ) where
   pub has_after : bit_at (n / 2 ^ p) k ≡ 1 → bit_at n (p + k) ≡ 1
-  has_after has = shifted n p k ∙ has
+  has_after has = let same : p + k - p ≡ k = omega arith in shifted_from n p (p + k) (omega arith) ∙ rw same has
 
   pub first_beyond : ((i : ℕ) → i < k → bit_at (n / 2 ^ p) i ≡ 0) → (j : ℕ) → IsEarlier p j (p + k)
       → ¬ (bit_at n j ≡ 1)

@@ -1,19 +1,18 @@
 -- Which stations concern the links in their slots.
-use Rattle.std.proofs.Common.{◌≡◌, ℕ, ◌<◌, ◌∙◌, refl, sym}
+use Rattle.std.proofs.Common.{◌≡◌, ℕ, ◌+◌, ◌<◌, ◌∙◌, arith, refl, sym}
 use Rattle.std.proofs.Common.{length-set, List, length, set, get_or, Option, Some, None, IfSome}
 use Rattle.std.proofs.lemmas.List.{get_or_default}
 use Rattle.std.proofs.lemmas.Option.{none-some}
 use Rattle.slink_feed.specs.declared.grant.Grant.{Grant}
-use Rattle.slink_feed.specs.declared.session.Phase.TheVariants as Phases
 use Rattle.slink_feed.specs.Serving.{SessionState}
 use Rattle.slink_feed.specs.Session.{Fits, grant_at}
 use Rattle.slink_feed.specs.Window.{Window}
 use Rattle.slink_live.specs.declared.places.Places.{Places}
-use Rattle.slink_live.specs.Served.{AllFit, LinkState}
+use Rattle.slink_live.specs.Served.{AllFit, LinkState, link_state}
 use Rattle.slink_live.specs.History.{Asks, none_called, one_called}
 use Rattle.slink_live.specs.private.Calling.{HasFilled}
 use Rattle.slink_live.specs.private.Granting.{AreCovered, Covers, CoversIn, no_places}
-use Rattle.slink_live.proofs.Fairness.{grants_no_more, streams_no_more}
+use Rattle.slink_live.proofs.Fairness.{grants_no_more, leaves}
 use Rattle.slink_live.proofs.Slots.{at_slot, each_some}
 
 -- one slot changed, and is sent no records of further stations
@@ -25,33 +24,28 @@ covered_still links granted j new covered lt here = record {
   each = λ k. at_slot (λ i o. CoversIn (get_or granted i no_places) o) links j new lt here k (λ ne. covered.each k);
 }
 
-covers_none : (places : Places) (o : Option LinkState) → o ≡ None → CoversIn places o
-covers_none places o none l is = absurd (none-some l (sym none ∙ is))
-
--- one whose session was called for packets
-asked_before : {feed : List Window} {s : SessionState} {ring : ℕ} {way : List ℕ} {last : SessionState} {turn : ℕ}
-    {all : List ℕ} → Asks feed s ring way last turn all
-    → (last.state.phase ≡ Phases.Streaming → s.state.phase ≡ Phases.Streaming)
-    × ((j : ℕ) → grant_at s.state.grants j ≡ None → grant_at last.state.grants j ≡ None)
-asked_before none_called = (λ e. e, λ j none. none)
-asked_before {feed} (one_called now t m k answer on a before first given held is) =
-    let earlier = asked_before before in (
-      λ e. earlier.0 (streams_no_more feed now.state t.state k answer given e),
-      λ j none. grants_no_more feed now.state t.state k j answer given (earlier.1 j none),
-    )
-
 granted_before : (o : Option Grant) (q : Option Grant) → (o ≡ None → q ≡ None) → (g : Grant) → q ≡ Some g
     → (h : Grant) × (o ≡ Some h)
 granted_before None q none g is = absurd (none-some g (sym (none refl) ∙ is))
 granted_before (Some h) q none g is = (h, refl)
 
+-- one whose session was called for packets
+asked_covers : (places : Places) {feed : List Window} {s : SessionState} {ring : ℕ} {way : List ℕ} {last : SessionState}
+    {turn : ℕ} {all : List ℕ} → Asks feed s ring way last turn all → Covers places (link_state s ring way)
+    → Covers places (link_state last turn all)
+asked_covers places none_called covers streams j g granted = covers streams j g granted
+asked_covers places {feed} (one_called now t m k answer on a before first given held is) covers streams j g granted =
+    let streamed = (leaves feed now.state t.state k (k + 1) answer
+    (λ h is_granted same. omega (arith, same)) given).streams streams in
+    let earlier = granted_before (grant_at now.state.grants j) _
+    (grants_no_more feed now.state t.state k j answer given) g granted in
+    asked_covers places before covers streamed j earlier.0 earlier.1
+
 covers_filled : (places : Places) (feed : List Window) (o new : Option LinkState) → CoversIn places o
     → HasFilled feed o new → CoversIn places new
-covers_filled places feed None new covers h = covers_none places new h
-covers_filled places feed (Some l) new covers h = rw h.1 (each_some (Covers places) (Some h.0) (λ streams k g granted.
-    let asked = asked_before h.2 in
-    let before = granted_before (grant_at l.session.state.grants k) _ (asked.1 k) g granted in
-    covers l refl (asked.0 streams) k before.0 before.1))
+covers_filled places feed None new covers h l is = absurd (none-some l (sym h ∙ is))
+covers_filled places feed (Some l) new covers h now is =
+    each_some (Covers places) (Some h.0) (asked_covers places h.2 (covers l refl)) now (sym h.1 ∙ is)
 
 -- A call saw the link in a slot.
 module _ (slots : List (Option LinkState)) (j : ℕ) (lt : j < length slots) {o : Option LinkState}

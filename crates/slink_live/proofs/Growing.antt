@@ -3,16 +3,17 @@ use Rattle.std.proofs.Common.{◌≡◌, ◌≢◌, ℕ, ◌+◌, ◌<◌, ◌�
 use Rattle.std.proofs.Common.{List, [], ◌∷◌, ◌++◌, length, Some, slice_get}
 use Rattle.std.proofs.lemmas.Bool.Decides.{eqb_tells}
 use Rattle.std.proofs.lemmas.Option.{same_Some, slice_get_within}
-use Rattle.slink_wire.specs.declared.lines.What.{What}
-use Rattle.slink_wire.specs.declared.lines.What.TheVariants.{More, Line, TooLong}
+use Rattle.slink_wire.specs.declared.lines.LineOutcome.{LineOutcome}
+use Rattle.slink_wire.specs.declared.lines.LineOutcome.TheVariants.{More, Line, TooLong}
 use Rattle.slink_wire.specs.declared.reply.Reply.{Reply}
 use Rattle.slink_feed.specs.declared.session.Phase.{Phase}
 use Rattle.slink_feed.specs.declared.session.Phase.TheVariants as Phases
 use Rattle.slink_feed.specs.declared.session.Sent.{Sent}
 use Rattle.slink_feed.specs.Intake.{pushed}
 use Rattle.slink_feed.specs.Serving.{IsAnswer}
-use Rattle.slink_feed.specs.Session.{State, answered_in, sent, sent_in}
+use Rattle.slink_feed.specs.Session.{State, answered_in}
 use Rattle.slink_feed.specs.Window.{Window, with_record}
+use Rattle.slink_feed.proofs.Calls.{shut_sent}
 use Rattle.slink_feed.proofs.Items.{get_here, get_there}
 use Rattle.slink_feed.proofs.Sendings.{answer_read}
 use Rattle.slink_live.specs.Fairness.{HasDue, HasNext, IsAmong, TakesTurns, TakesTurnsOn, called_on, comes, hears}
@@ -73,25 +74,21 @@ next_due feed s j d = record {
 }
 
 -- A closed session stays closed, whatever its client says.
-shut_heard : (feed : List Window) (s : State) (what : What) (now : State) (reply : Reply) → s.phase ≡ Phases.Closed
-    → IsAnswer feed s what now reply → now.phase ≡ Phases.Closed
+shut_heard : (feed : List Window) (s : State) (what : LineOutcome) (now : State) (reply : Reply)
+    → s.phase ≡ Phases.Closed → IsAnswer feed s what now reply → now.phase ≡ Phases.Closed
 shut_heard feed s More now reply shut a = ap (λ (x : State). x.phase) a.0 ∙ shut
 shut_heard feed s (Line line) now reply shut a =
     sym (ap (λ (x : State × Reply). x.0.phase)
     (sym (ap (λ (p : Phase). answered_in p feed s a.0) shut) ∙ a.2)) ∙ shut
 shut_heard feed s TooLong now reply shut a = sym (ap (λ (x : State × Reply). x.0.phase) a)
 
-shut_sent : (feed : List Window) (s now : State) (k : ℕ) (answer : Sent) → s.phase ≡ Phases.Closed
-    → sent feed s k ≡ (now, answer) → now.phase ≡ Phases.Closed
-shut_sent feed s now k answer shut e =
-    sym (ap (λ (x : State × Sent). x.0.phase) (sym (ap (λ (p : Phase). sent_in p feed s k) shut) ∙ e)) ∙ shut
-
 shut_on : {f : List Window} {s : State} {ring : ℕ} {ks : List ℕ} {g : List Window} {t : State} {turn : ℕ}
     → TakesTurnsOn f s ring ks g t turn → s.phase ≡ Phases.Closed → t.phase ≡ Phases.Closed
 shut_on (no_more_on a b c) shut = shut
 shut_on (comes a rs b d e p q more on) shut = shut_on on shut
 shut_on (hears a b now d e p q more what reply is on) shut = shut_on on (shut_heard a b what now reply shut is)
-shut_on (called_on a b now d e p q m answer more first is on) shut = shut_on on (shut_sent a b now m answer shut is)
+shut_on (called_on a b now d e p q m answer more first is on) shut = shut_on on
+    (sym (ap (λ (x : State × Sent). x.0.phase) (sym (shut_sent a b m shut) ∙ is)) ∙ shut)
 
 not_both : (t : State) → t.phase ≡ Phases.Closed → ¬ (t.phase ≡ Phases.Streaming)
 not_both t shut streams = let bad : Phases.Closed ≡ Phases.Streaming = sym shut ∙ streams in cc bad
@@ -118,7 +115,7 @@ ahead_grown k j (called_on a b now last e p q m answer more first is on) streams
         streams = on_streams;
         grant = d.grant;
         ring = d.ring;
-        granted = (leaves a b now m j answer ne is).grant ∙ d.granted;
+        granted = (leaves a b now m j answer (λ h granted. ne) is).grant ∙ d.granted;
         there = d.there;
         before = d.before;
       }) (λ x. none (inr x)) (ahead_on k p j m ahead never ne)

@@ -41,14 +41,14 @@ module _ (start : List Window) (k : ℕ) (log : List Happening) where
       IsServed start k happened (Some (history l.session l.ring (emitted ++ l.pending) emitted))
 
   -- the history of a link goes on
-  goes_on : (last : List Happening) (l now : LinkState) (reported : Option History)
+  goes_on : (last : List Happening) (l now : LinkState) (past : Option History)
       → ((emitted : List ℕ) → HasHistory log l emitted → (all : List ℕ) × HasHistory last now all)
-      → IsServed start k log reported → Matches (Some l) reported → IsHistory start k (Some now) last
+      → IsServed start k log past → Matches (Some l) past → IsHistory start k (Some now) last
   goes_on last l now None on served m = absurd m
   goes_on last l now (Some t) on served m =
       let further = on t.emitted (rw (← m.0, ← m.1, ← m.2) served) in
       record {
-        reported = Some (history now.session now.ring (further.0 ++ now.pending) further.0);
+        past = Some (history now.session now.ring (further.0 ++ now.pending) further.0);
         served = further.1;
         matches = (refl, refl, refl);
       }
@@ -56,7 +56,7 @@ module _ (start : List Window) (k : ℕ) (log : List Happening) where
   pub received_history : (feed : List Window) (l now : LinkState) (bytes : List ℕ) → IsFed start (input_of log) feed
       → Serves feed l.session bytes l.pending now.session now.pending → now.ring ≡ l.ring
       → IsHistory start k (Some l) log → IsHistory start k (Some now) (log ++ Received k bytes ∷ [])
-  received_history feed l now bytes fed serves ring s = goes_on _ l now s.reported (λ emitted served. (
+  received_history feed l now bytes fed serves ring s = goes_on _ l now s.past (λ emitted served. (
     emitted,
     rw ring (receives log _ feed l.session now.session l.ring bytes (emitted ++ l.pending) (emitted ++ now.pending)
         emitted served fed (serves_after emitted serves) refl),
@@ -67,7 +67,7 @@ module _ (start : List Window) (k : ℕ) (log : List Happening) where
       ((log ++ Handed k l.pending ∷ []) ++ Emitted k (take n l.pending) ∷ [])
   taken_history l n s =
       let handed : List Happening = log ++ Handed k l.pending ∷ [] in
-      goes_on _ l (link_state l.session l.ring (drop n l.pending)) s.reported (λ emitted served.
+      goes_on _ l (link_state l.session l.ring (drop n l.pending)) s.past (λ emitted served.
       let whole : emitted ++ l.pending ≡ (emitted ++ take n l.pending) ++ drop n l.pending =
       rw (append_assoc, take-append-drop n l.pending) refl in (
         emitted ++ take n l.pending,
@@ -75,10 +75,10 @@ module _ (start : List Window) (k : ℕ) (log : List Happening) where
             (elsewhere log handed (Handed k l.pending) _ served refl refl) (drop n l.pending, whole) refl),
       )) s.served s.matches
 
-  opens_at : (l : LinkState) (reported : Option History) → IsNew l.session → l.pending ≡ [] → l.ring ≡ 0
-      → IsServed start k log reported → Matches None reported → IsHistory start k (Some l) (log ++ Opened k ∷ [])
+  opens_at : (l : LinkState) (past : Option History) → IsNew l.session → l.pending ≡ [] → l.ring ≡ 0
+      → IsServed start k log past → Matches None past → IsHistory start k (Some l) (log ++ Opened k ∷ [])
   opens_at l None fresh none begins served m = record {
-    reported = Some (history l.session 0 [] []);
+    past = Some (history l.session 0 [] []);
     served = opens log _ l.session served fresh refl;
     matches = (refl, sym begins, sym none);
   }
@@ -86,15 +86,15 @@ module _ (start : List Window) (k : ℕ) (log : List Happening) where
 
   pub opened_history : (l : LinkState) → IsNew l.session → l.pending ≡ [] → l.ring ≡ 0 → IsHistory start k None log
       → IsHistory start k (Some l) (log ++ Opened k ∷ [])
-  opened_history l fresh none begins s = opens_at l s.reported fresh none begins s.served s.matches
+  opened_history l fresh none begins s = opens_at l s.past fresh none begins s.served s.matches
 
   pub gone_history : (o : Option LinkState) → IsHistory start k o log → IsHistory start k None (log ++ Gone k ∷ [])
-  gone_history o s = record { reported = None; served = goes log _ s.reported s.served refl; matches = tt }
+  gone_history o s = record { past = None; served = goes log _ s.past s.served refl; matches = tt }
 
   pub filled_history : (feed : List Window) (l now : LinkState) → IsFed start (input_of log) feed
       → Asks feed l.session l.ring l.pending now.session now.ring now.pending → IsHistory start k (Some l) log
       → IsHistory start k (Some now) log
-  filled_history feed l now fed called s = goes_on log l now s.reported (λ emitted served. (
+  filled_history feed l now fed called s = goes_on log l now s.past (λ emitted served. (
     emitted,
     asks log feed l.session now.session l.ring now.ring (emitted ++ l.pending) (emitted ++ now.pending) emitted served
         fed (asks_after emitted called),

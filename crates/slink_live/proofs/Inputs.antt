@@ -45,13 +45,8 @@ pub one_input : (places : List Fields) (bytes : List ℕ) (rs others : List (Lis
 one_input places bytes rs others rest left a b =
     let longer = input_grows places bytes [] rs others rest left a (rw (append-nil bytes) b) in
     let back = input_grows places bytes [] others rs left rest b (rw (append-nil bytes) a) in
-    let none : length longer.0 ≡ 0 = omega (
-      arith,
-      ap length longer.1,
-      ap length back.1,
-      length-append others back.0,
-      length-append rs longer.0,
-    ) in
+    let none : length longer.0 ≡ 0 =
+    omega (arith, simp length-append at (ap length longer.1), simp length-append at (ap length back.1)) in
     let same : rs ≡ others = sym (longer.1 ∙ rw (nil_from_length longer.0 none) (append-nil rs)) in
     (same, append_cancel_left (concat rs) rest left (sym a.joined ∙ (b.joined ∙ rw same refl)))
 

@@ -28,29 +28,17 @@ module _ (feed : List Window) (grants : Grants) (k : ℕ) where
       → oldest_of w ≤ n → ¬ (HasLeft feed grants k)
   has_not_left {n} w granted here le x =
       let g = granted_by (grant_at grants k) n granted in
-      omega (
-        arith,
-        le,
-        g.2,
-        x.left,
-        ap (λ (y : Grant). y.position) (same_Some g.0 x.grant (sym g.1 ∙ x.granted)),
-        ap oldest_of (same_Some w x.ring (sym here ∙ x.there)),
-      )
+      let same = ap (λ (y : Grant). y.position) (same_Some g.0 x.grant (sym g.1 ∙ x.granted)) in
+      omega (arith, le, g.2, x.left, same, ap oldest_of (same_Some w x.ring (sym here ∙ x.there)))
 
   pub none_left : position_of (grant_at grants k) ≡ None → ¬ (HasLeft feed grants k)
   none_left none x = none-some x.grant.position (sym none ∙ ap position_of x.granted)
 
 -- where nothing is due, none has left
-pub waiting_not_lost : (feed : List Window) (s : State) → IsWaiting feed s → ¬ (IsLost feed s)
-waiting_not_lost feed s waits lost =
+pub rested_not_lost : (feed : List Window) (s : State) → IsWaiting feed s ⊎ (s.phase ≡ Closed) → ¬ (IsLost feed s)
+rested_not_lost feed s (inl waits) lost =
     let x : HasLeft feed s.grants lost.k = lost.place in
     let within : lost.k < length feed = slice_get_within feed lost.k x.ring x.there in
     sends_here feed s lost.k lost.streams within
     (λ at. omega (arith, at x.grant x.ring x.granted x.there, x.left)) (waits lost.k within)
-
-pub closed_not_lost : (feed : List Window) (s : State) → s.phase ≡ Closed → ¬ (IsLost feed s)
-closed_not_lost feed s shut lost = let bad : Closed ≡ Streaming = sym shut ∙ lost.streams in cc bad
-
-pub rested_not_lost : (feed : List Window) (s : State) → IsWaiting feed s ⊎ (s.phase ≡ Closed) → ¬ (IsLost feed s)
-rested_not_lost feed s (inl waits) = waiting_not_lost feed s waits
-rested_not_lost feed s (inr shut) = closed_not_lost feed s shut
+rested_not_lost feed s (inr shut) lost = let bad : Closed ≡ Streaming = sym shut ∙ lost.streams in cc bad

@@ -1,10 +1,7 @@
 -- Of a link only what happened in its slot matters, and the input; and each moment has its history.
-use Rattle.std.proofs.Common.{◌≡◌, ℕ, ◌∙◌, ap, subst, refl, sym, inl, inr, Bool, true, false, ◌||◌, List, [], ◌∷◌}
-use Rattle.std.proofs.Common.{◌++◌, append-nil, Option, None, if◌then◌else◌, arith, length, length-append, take}
-use Rattle.std.proofs.Common.{take_all}
-use Rattle.std.proofs.Math.Seq.{take-append_seam, take-nil}
-use Rattle.std.proofs.lemmas.Bool.Decides.{leb_tells}
-use Rattle.std.proofs.lemmas.List.{take-append-le}
+use Rattle.std.proofs.Common.{◌≡◌, ℕ, ◌∙◌, ap, subst, refl, sym, Bool, true, false, ◌||◌, List, [], ◌∷◌}
+use Rattle.std.proofs.Common.{◌++◌, append-nil, Option, None, if◌then◌else◌, arith, length, append_assoc}
+use Rattle.std.proofs.lemmas.List.{length_push, same_from_push}
 use Rattle.slink_feed.specs.Window.{Window}
 use Rattle.slink_live.specs.Happening.{Happening, Input, Opened, Received, Emitted, Gone}
 use Rattle.slink_live.specs.Happening.{input_of, is_at, is_input, piece_of, those_of}
@@ -41,8 +38,7 @@ input_those k (h ∷ hs) = input_if (is_input h) (is_at k h) h (those_of k hs) r
 -- one thing more, which concerns the slot
 those_more : (k : ℕ) (before now : List Happening) (h : Happening) → now ≡ before ++ h ∷ []
     → (is_input h || is_at k h) ≡ true → those_of k now ≡ those_of k before ++ h ∷ []
-those_more k before now h e t = ap (those_of k) e ∙ (those_append k before (h ∷ [])
-    ∙ ap (λ q. those_of k before ++ (if q then h ∷ [] else [])) t)
+those_more k before now h e t = rw (e, those_append k before (h ∷ []), t) refl
 
 module _ (start : List Window) (k : ℕ) where
   fed_those : (log : List Happening) (feed : List Window) → IsFed start (input_of log) feed
@@ -56,10 +52,7 @@ module _ (start : List Window) (k : ℕ) where
       elsewhere (those_of k before) (those_of k now) h o s other
       (those_more k before now h e (ap (λ t. t || is_at k h) is))
   own_elsewhere false before now h o is other e s =
-      subst (λ l. IsServed start k l o)
-      (sym (ap (those_of k) e ∙ (those_append k before (h ∷ [])
-      ∙ (ap (λ t. those_of k before ++ (if t || is_at k h then h ∷ [] else [])) is
-      ∙ (ap (λ t. those_of k before ++ (if t then h ∷ [] else [])) other ∙ append-nil (those_of k before)))))) s
+      rw (e, those_append k before (h ∷ []), is, other, append-nil (those_of k before)) s
 
   pub own_history : (log : List Happening) (o : Option History) → IsServed start k log o
       → IsServed start k (those_of k log) o
@@ -82,35 +75,29 @@ module _ (start : List Window) (k : ℕ) where
       goes (those_of k before) (those_of k now) x (own_history before x s)
       (those_more k before now (Gone k) e (eq-eqb k k refl))
 
--- the history of the first events
-module _ (start : List Window) (k n : ℕ) where
-  abbrev HasHistory : List Happening → Type 0
-  HasHistory log = (o : Option History) × IsServed start k (take n log) o
+-- What happened before one event more comes to a history.
+module _ (start : List Window) (k : ℕ) (before : List Happening) (h : Happening) where
+  abbrev HasHistory : Type 0
+  HasHistory = (o : Option History) × IsServed start k before o
 
-  -- one thing more
-  moment : (b now : List Happening) (h : Happening) (o : Option History) → now ≡ b ++ h ∷ [] → IsServed start k now o
-      → HasHistory b → HasHistory now
-  moment b now h o e s before = elim (leb_tells n (length b)) [
-    | inl few ↦ (before.0, rw (e, take-append-le n b (h ∷ []) few.1) before.1)
-    | inr all ↦ (o, rw (take_all {A = Happening} n now (omega (arith, all.1, ap length e, length-append b (h ∷ [])))) s)
-  ]
+  so_far : (b now : List Happening) (g : Happening) (o : Option History) → now ≡ b ++ g ∷ [] → IsServed start k b o
+      → now ≡ before ++ h ∷ [] → HasHistory
+  so_far b now g o is s e = (o, rw (same_from_push before b h g (sym e ∙ is)).0 s)
 
-  first_events : (log : List Happening) (o : Option History) → IsServed start k log o → HasHistory log
-  first_events log o no_event = (None, rw (take-nil n) no_event)
-  first_events log o (elsewhere b now h x s other e) =
-      moment b now h _ e (elsewhere b now h x s other e) (first_events b x s)
-  first_events log o (opens b now t s fresh e) =
-      moment b now (Opened k) _ e (opens b now t s fresh e) (first_events b None s)
-  first_events log o (receives b now feed t new ring bytes produced all emitted s fed serves e) =
-      moment b now (Received k bytes) _ e (receives b now feed t new ring bytes produced all emitted s fed serves e)
-      (first_events b _ s)
-  first_events log o (asks now feed t new ring turn produced all emitted s fed called) = first_events now _ s
-  first_events log o (takes b now t ring bytes produced emitted s prefix e) =
-      moment b now (Emitted k bytes) _ e (takes b now t ring bytes produced emitted s prefix e) (first_events b _ s)
-  first_events log o (goes b now x s e) = moment b now (Gone k) _ e (goes b now x s e) (first_events b x s)
+  before_last : (now : List Happening) (o : Option History) → IsServed start k now o → now ≡ before ++ h ∷ []
+      → HasHistory
+  before_last now o no_event e = absurd (omega (arith, ap length e, length_push before h))
+  before_last now o (elsewhere b last g x s other is) e = so_far b last g x is s e
+  before_last now o (opens b last t s fresh is) e = so_far b last _ None is s e
+  before_last now o (receives b last feed t new ring bytes produced all emitted s fed serves is) e =
+      so_far b last _ _ is s e
+  before_last now o (asks last feed t new ring turn produced all emitted s fed called) e = before_last last _ s e
+  before_last now o (takes b last t ring bytes produced emitted s prefix is) e = so_far b last _ _ is s e
+  before_last now o (goes b last x s is) e = so_far b last _ x is s e
 
 pub each_moment : (start : List Window) (k : ℕ) (before after : List Happening) (o : Option History)
-    → IsServed start k (before ++ after) o → (reported : Option History) × IsServed start k before reported
-each_moment start k before after o s =
-    let first = first_events start k (length before) (before ++ after) o s in
-    (first.0, rw (take-append_seam before after) at first.1)
+    → IsServed start k (before ++ after) o → (past : Option History) × IsServed start k before past
+each_moment start k before [] o s = (o, rw append-nil at s)
+each_moment start k before (h ∷ after) o s =
+    let on = each_moment start k (before ++ h ∷ []) after o (rw (append_assoc before (h ∷ []) after) s) in
+    before_last start k before h _ on.0 on.1 refl

@@ -1,9 +1,9 @@
 -- What a link is sent, by slink_feed's laws.
 use Rattle.std.proofs.Common.{◌≡◌, ◌≢◌, ◌⊎◌, ℕ, ◌∙◌, ap, subst, refl, sym, inl, inr, List, [], ◌∷◌, ◌++◌, length}
-use Rattle.std.proofs.Common.{append_assoc, append-nil, Option, Some, None, slice_get}
+use Rattle.std.proofs.Common.{append_assoc, append-nil, take, Option, Some, None, slice_get}
 use Rattle.std.proofs.Math.Seq.{take-append_seam}
 use Rattle.std.proofs.lemmas.List.Elements.{filter-append}
-use Rattle.slink_wire.specs.declared.lines.What.{What}
+use Rattle.slink_wire.specs.declared.lines.LineOutcome.{LineOutcome}
 use Rattle.slink_wire.specs.declared.reply.Reply.{Reply}
 use Rattle.slink_wire.specs.Lines.{IsHeld}
 use Rattle.slink_wire.specs.Reply.{reply_bytes}
@@ -20,30 +20,31 @@ use Rattle.slink_feed.proofs.Connected.{on_sent, read_further, reply_none}
 use Rattle.slink_feed.proofs.Sendings.{IsOn, answer_read, read_on, slice_sent}
 use Rattle.slink_feed.proofs.Stands.{closed_or, open_before}
 use Rattle.slink_feed.specs.Intake.{places_of}
-use Rattle.slink_live.specs.Happening.{Happening, input_of}
+use Rattle.slink_live.specs.Happening.{Happening, input_of, piece_of}
 use Rattle.slink_live.specs.Input.{IsFed, IsInput, fed}
 use Rattle.slink_live.specs.History.{Asks, IsServed, History, history, none_called, one_called, no_event, elsewhere}
 use Rattle.slink_live.specs.History.{opens, receives, asks, takes, goes}
 use Rattle.slink_live.specs.Slices.{ProducesSlices, all_replies, is_first, records_at, replies_alone, streams}
 use Rattle.slink_live.proofs.Inputs.{input_grows}
 use Rattle.slink_live.proofs.Rings.{shows_fed}
-use Rattle.slink_live.proofs.Slots.{input_append}
+use Rattle.slink_live.proofs.Slots.{input_last}
 
--- called again and again, from one state to another
+-- Called again and again, it stands where any further calls go on.
 abbrev CalledTo : State → List Called → State → Type 0
-CalledTo s [] u = u ≡ s
-CalledTo s (a ∷ more) u = (t : State) × IsReadFrom s t × ((sent a.feed t a.place).1 ≡ a.answer)
-    × CalledTo (sent a.feed t a.place).0 more u
+CalledTo s xs t = (more : List Called) → AreCalled t more → AreCalled s (xs ++ more)
 
-are_called : (s u : State) (xs : List Called) → CalledTo s xs u → AreCalled s xs
-are_called s u [] h = tt
-are_called s u (a ∷ more) h = (h.0, h.1, h.2, are_called (sent a.feed h.0 a.place).0 u more h.3)
+read_first : (s t : State) (more : List Called) → IsReadFrom s t → AreCalled t more → AreCalled s more
+read_first s t [] read are = tt
+read_first s t (a ∷ more) read are = (are.0, read_further s t are.0 read are.1, are.2, are.3)
 
-called_last : (s u t v : State) (xs : List Called) (a : Called) → CalledTo s xs u → IsReadFrom u t
-    → sent a.feed t a.place ≡ (v, a.answer) → CalledTo s (xs ++ a ∷ []) v
-called_last s u t v [] a h read e =
-    (t, rw h at read, ap (λ (x : State × Sent). x.1) e, sym (ap (λ (x : State × Sent). x.0) e))
-called_last s u t v (x ∷ xs) a h read e = (h.0, h.1, h.2, called_last (sent x.feed h.0 x.place).0 u t v xs a h.3 read e)
+called_last : (s : State) (xs : List Called) {t u : State} (a : Called) → CalledTo s xs t
+    → sent a.feed t a.place ≡ (u, a.answer) → CalledTo s (xs ++ a ∷ []) u
+called_last s xs {t = t} a to e more are = rw (append_assoc xs (a ∷ []) more) (to (a ∷ more) (
+  t,
+  inl refl,
+  ap (λ (x : State × Sent). x.1) e,
+  subst (λ (u : State). AreCalled u more) (sym (ap (λ (x : State × Sent). x.0) e)) are,
+))
 
 bytes_last : (xs : List Called) (a : Called) → bytes_sent (xs ++ a ∷ []) ≡ bytes_sent xs ++ sent_bytes a.answer
 bytes_last [] a = append-nil (sent_bytes a.answer)
@@ -64,69 +65,78 @@ quiet_in : (p : Phase) (feed : List Window) (s : State) (k : ℕ) → p ≢ Stre
 quiet_in Streaming feed s k off = absurd (off refl)
 quiet_in phase feed s k off = (refl, refl)
 
-off_on : (p : Phase) → p ≢ Streaming → p ≢ Closed → IsOn p → ⊥
-off_on p off alive (inl on) = off on
-off_on p off alive (inr shut) = alive shut
-
--- each call was of rings as an earlier moment had them
-abbrev AreFrom : List Window → List Happening → List Called → Type 0
-AreFrom start log [] = Unit {0}
-AreFrom start log (a ∷ more) = ((leading back : List Happening) × (log ≡ leading ++ back)
-    × IsFed start (input_of leading) a.feed) × AreFrom start log more
+-- Whatever the input gives after these bytes, each call was of rings that show the last of its records so far.
+abbrev AreShownBy : List Window → List ℕ → List Called → Type 0
+AreShownBy start bytes xs = (more : List ℕ) (records : List (List ℕ)) (rest : List ℕ) (k first : ℕ) (w : Window)
+    (pushed : List (List ℕ)) → IsInput (places_of start) (bytes ++ more) records rest → slice_get start k ≡ Some w
+    → Shows w first pushed → AreShown k first (pushed ++ records_at k (places_of start) records) xs
 
 -- what a session came to, and what it sent
 data Produced (start : List Window) (log : List Happening) (t : State) (produced : List ℕ) : Type 0 where
   only_replies : (rs : List Reply) → t.phase ≢ Streaming → produced ≡ all_replies rs → Produced start log t produced
-  has_streamed : (rs : List Reply) (s u : State) (xs : List Called) → s.phase ≡ Streaming → CalledTo s xs u
-      → IsReadFrom u t → IsOn t.phase → AreFrom start log xs → produced ≡ all_replies rs ++ bytes_sent xs
+  has_streamed : (rs : List Reply) (s : State) (xs : List Called) → s.phase ≡ Streaming → CalledTo s xs t
+      → IsOn t.phase → AreShownBy start (input_of log) xs → produced ≡ all_replies rs ++ bytes_sent xs
       → Produced start log t produced
 
-module _ (start : List Window) where
-  from_more : (log now : List Happening) (h : Happening) (xs : List Called) → now ≡ log ++ h ∷ [] → AreFrom start log xs
-      → AreFrom start now xs
-  from_more log now h [] e f = tt
-  from_more log now h (a ∷ more) e f = (
-    (f.0.0, f.0.1 ++ h ∷ [], rw (e, f.0.2) (append_assoc f.0.0 f.0.1 (h ∷ [])), f.0.3),
-    from_more log now h more e f.1,
-  )
+shown_last : (k first : ℕ) (records : List (List ℕ)) (xs : List Called) (a : Called) → AreShown k first records xs
+    → ((w : Window) × (n : ℕ) × (slice_get a.feed k ≡ Some w) × Shows w first (take n records))
+    → AreShown k first records (xs ++ a ∷ [])
+shown_last k first records [] a are one = (one, tt)
+shown_last k first records (x ∷ xs) a are one = (are.0, shown_last k first records xs a are.1 one)
 
-  from_last : (log : List Happening) (xs : List Called) (a : Called) → IsFed start (input_of log) a.feed
-      → AreFrom start log xs → AreFrom start log (xs ++ a ∷ [])
-  from_last log [] a is_fed f = ((log, [], sym (append-nil log), is_fed), tt)
-  from_last log (x ∷ xs) a is_fed f = (f.0, from_last log xs a is_fed f.1)
+module _ (start : List Window) where
+  shown_more : (bytes piece : List ℕ) (xs : List Called) → AreShownBy start bytes xs
+      → AreShownBy start (bytes ++ piece) xs
+  shown_more bytes piece xs shown more records rest k first w pushed input =
+      shown (piece ++ more) records rest k first w pushed (rw (append_assoc bytes piece more) at input)
+
+  called_shown : (bytes : List ℕ) (xs : List Called) (a : Called) → IsFed start bytes a.feed
+      → AreShownBy start bytes xs → AreShownBy start bytes (xs ++ a ∷ [])
+  called_shown bytes xs a fed shown more records rest k first w pushed input here shows =
+      let at : List (List ℕ) → List (List ℕ) = records_at k (places_of start) in
+      let grown = input_grows (places_of start) bytes more fed.1.records records fed.0 rest fed.1.input input in
+      let ring = shows_fed start fed.1.records k first w pushed here shows in
+      let so_far : List (List ℕ) = pushed ++ at fed.1.records in
+      let all : pushed ++ at records ≡ so_far ++ at grown.0 =
+      ap (λ rs. pushed ++ at rs) grown.1
+      ∙ (ap (λ rs. pushed ++ rs) (filter-append (is_first k (places_of start)) fed.1.records grown.0)
+      ∙ sym (append_assoc pushed (at fed.1.records) (at grown.0))) in
+      shown_last k first (pushed ++ at records) xs a (shown more records rest k first w pushed input here shows) (
+        ring.0,
+        length so_far,
+        rw fed.1.feed_is ring.1,
+        rw (all, take-append_seam so_far (at grown.0)) ring.2,
+      )
 
   produced_more : {log now : List Happening} (h : Happening) {t : State} {produced : List ℕ} → now ≡ log ++ h ∷ []
       → Produced start log t produced → Produced start now t produced
   produced_more h e (only_replies rs off is) = only_replies rs off is
-  produced_more {log} {now} h e (has_streamed rs s u xs begun to read on from is) =
-      has_streamed rs s u xs begun to read on (from_more log now h xs e from) is
+  produced_more {log} h e (has_streamed rs s xs begun to on shown is) = has_streamed rs s xs begun to on
+      (rw (e, input_last log h) (shown_more (input_of log) (piece_of h) xs shown)) is
 
   -- a reply before it streams
-  replied : {log : List Happening} (new : State) {produced : List ℕ} (rs : List Reply) (r : Reply)
-      → produced ≡ all_replies rs → Produced start log new (produced ++ reply_bytes r)
-  replied new {produced} rs r is =
-      let all : produced ++ reply_bytes r ≡ all_replies (rs ++ r ∷ []) = rw is (sym (replies_last rs r)) in
-      elim (streams_or new.phase) [
-        | inl on ↦ has_streamed (rs ++ r ∷ []) new new [] on refl (inl refl) (inl on) tt
-            (all ∙ sym (append-nil (all_replies (rs ++ r ∷ []))))
-        | inr off ↦ only_replies (rs ++ r ∷ []) off all
-      ]
-
   before_produced : {log : List Happening} {old : State} (new : State) (r : Reply) {produced : List ℕ}
       → old.phase ≢ Streaming → old.phase ≢ Closed → Produced start log old produced
       → Produced start log new (produced ++ reply_bytes r)
-  before_produced new r off alive (only_replies rs o eq) = replied new rs r eq
-  before_produced {old = old} new r off alive (has_streamed rs s u xs begun to read on from eq) =
-      absurd (off_on old.phase off alive on)
+  before_produced new r {produced} off alive (only_replies rs o eq) =
+      let all : produced ++ reply_bytes r ≡ all_replies (rs ++ r ∷ []) = rw eq (sym (replies_last rs r)) in
+      elim (streams_or new.phase) [
+        | inl on ↦ has_streamed (rs ++ r ∷ []) new [] on (λ more are. are) (inl on)
+            (λ more records rest k first w pushed input here shows. tt)
+            (all ∙ sym (append-nil (all_replies (rs ++ r ∷ []))))
+        | inr still_off ↦ only_replies (rs ++ r ∷ []) still_off all
+      ]
+  before_produced {old = old} new r off alive (has_streamed rs s xs begun to on shown eq) =
+      absurd (elim on [ inl is_on ↦ off is_on | inr shut ↦ alive shut ])
 
-  streaming_produced : {log : List Happening} (feed : List Window) {old new : State} (what : What) (r : Reply)
+  streaming_produced : {log : List Happening} (feed : List Window) {old new : State} (what : LineOutcome) (r : Reply)
       {produced : List ℕ} → old.phase ≡ Streaming → IsAnswer feed old what new r → Produced start log old produced
       → Produced start log new (produced ++ reply_bytes r)
   streaming_produced feed what r on is (only_replies rs off eq) = absurd (off on)
-  streaming_produced feed {old} {new} what r {produced} on is (has_streamed rs s u xs begun to read o from eq) =
+  streaming_produced feed {old} {new} what r {produced} on is (has_streamed rs s xs begun to o shown eq) =
       let moved : IsReadFrom old new = answer_read feed old new what r on is in
-      has_streamed rs s u xs begun to (read_further u old new read moved) (read_on old new moved o) from
-      (rw (reply_none feed old new what r on is) (append-nil produced ∙ eq))
+      has_streamed rs s xs begun (λ more are. to more (read_first old new more moved are)) (read_on old new moved o)
+      shown (rw (reply_none feed old new what r on is) (append-nil produced ∙ eq))
 
   abbrev ProducedOf : List Happening → SessionState → List ℕ → Type 0
   ProducedOf log t produced = Produced start log t.state produced × HasStream t
@@ -161,10 +171,11 @@ module _ (start : List Window) where
       → Produced start log old produced → Produced start log new (produced ++ sent_bytes answer)
   sends_on k on fed e (only_replies rs off eq) = absurd (off on)
   sends_on {log} {feed} {old} {new} k {answer} on fed e
-      (has_streamed rs s u xs begun to read o from eq) =
+      (has_streamed rs s xs begun to o shown eq) =
       let a : Called = record { feed = feed; place = k; answer = answer } in
-      has_streamed rs s new (xs ++ a ∷ []) begun (called_last s u old new xs a to read e) (inl refl)
-      (subst (λ (x : State × Sent). IsOn x.0.phase) e (on_sent feed old k (inl on))) (from_last log xs a fed from)
+      has_streamed rs s (xs ++ a ∷ []) begun (called_last s xs a to e)
+      (subst (λ (x : State × Sent). IsOn x.0.phase) e (on_sent feed old k (inl on)))
+      (called_shown (input_of log) xs a fed shown)
       (rw (eq, bytes_last xs a) (append_assoc (all_replies rs) (bytes_sent xs) (sent_bytes answer)))
 
   called_at : {log : List Happening} {feed : List Window} {old new : State} (k : ℕ) {answer : Sent} {produced : List ℕ}
@@ -213,41 +224,15 @@ module _ (start : List Window) where
       history_more before now _ (Some (history s ring produced (emitted ++ bytes))) e (history_sends served)
   history_sends (goes before now x served e) = tt
 
-  -- what each ring showed when it was called
-  shown : (log : List Happening) (records : List (List ℕ)) (rest : List ℕ) (k first : ℕ) (w : Window)
-      (pushed : List (List ℕ)) → IsInput (places_of start) (input_of log) records rest → slice_get start k ≡ Some w
-      → Shows w first pushed → (xs : List Called) → AreFrom start log xs
-      → AreShown k first (pushed ++ records_at k (places_of start) records) xs
-  shown log records rest k first w pushed input here s [] f = tt
-  shown log records rest k first w pushed input here s (a ∷ more) f =
-      let earlier = f.0.3 in
-      let at : List (List ℕ) → List (List ℕ) = records_at k (places_of start) in
-      let grown = input_grows (places_of start) (input_of f.0.0) (input_of f.0.1) earlier.1.records records earlier.0
-      rest earlier.1.input (rw (f.0.2, input_append f.0.0 f.0.1) at input) in
-      let ring = shows_fed start earlier.1.records k first w pushed here s in
-      let so_far : List (List ℕ) = pushed ++ at earlier.1.records in
-      let all : pushed ++ at records ≡ so_far ++ at grown.0 =
-      ap (λ rs. pushed ++ at rs) grown.1
-      ∙ (ap (λ rs. pushed ++ rs) (filter-append (is_first k (places_of start)) earlier.1.records grown.0)
-      ∙ sym (append_assoc pushed (at earlier.1.records) (at grown.0))) in (
-        (
-          ring.0,
-          length so_far,
-          rw earlier.1.feed_is ring.1,
-          rw (all, take-append_seam so_far (at grown.0)) ring.2,
-        ),
-        shown log records rest k first w pushed input here s more f.1,
-      )
-
   says : (log : List Happening) (records : List (List ℕ)) (rest : List ℕ) (t : State) (produced : List ℕ)
       → IsInput (places_of start) (input_of log) records rest → Produced start log t produced
       → ProducesSlices start records produced
   says log records rest t produced input (only_replies rs off is) = replies_alone rs is
-  says log records rest t produced input (has_streamed rs s u xs begun to read on from is) =
-      streams rs s xs begun (are_called s u xs to) is
-      (λ k first w pushed g here shows granted. slice_sent k first
-      (pushed ++ records_at k (places_of start) records) xs s g (inl begun) granted (are_called s u xs to)
-      (shown log records rest k first w pushed input here shows xs from))
+  says log records rest t produced input (has_streamed rs s xs begun to on shown is) =
+      let are : AreCalled s xs = rw append-nil at (to [] tt) in
+      streams rs s xs begun are is (λ k first w pushed g here shows granted. slice_sent k first
+      (pushed ++ records_at k (places_of start) records) xs s g (inl begun) granted are
+      (shown [] records rest k first w pushed (rw (append-nil (input_of log)) input) here shows))
 
   pub link_sends : (k : ℕ) (log : List Happening) (t : History) (records : List (List ℕ)) (rest : List ℕ)
       → IsServed start k log (Some t) → IsInput (places_of start) (input_of log) records rest

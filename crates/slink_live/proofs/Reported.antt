@@ -13,7 +13,7 @@ use Rattle.slink_live.specs.declared.link.Update.TheVariants as outcomes
 use Rattle.slink_live.specs.declared.ready.Interest.{Interest}
 use Rattle.slink_live.specs.Awake.{Goes, IsAwakeIn, IsClosedRightly, IsUpToDate, IsReported}
 use Rattle.slink_live.specs.Awake.{IsFirstFree, has_free, nothing, further}
-use Rattle.slink_live.specs.Happening.{Happening, Gone, Wants, WantsLinks, first_interest, is_left}
+use Rattle.slink_live.specs.Happening.{Happening, Gone, Wants, WantsLinks, first_interest}
 use Rattle.slink_live.specs.Happening.{last_interest, interest_after}
 use Rattle.slink_live.specs.Served.{IsServing, IsSound, LinkState, ServerState}
 use Rattle.slink_live.specs.Turns.{Closes}
@@ -80,20 +80,18 @@ module _ (s : ServerState) (j : ℕ) (new : Option LinkState) where
       left = b.left ∙ r.left;
     }
 
-    -- so it was updated
-    updates_by : j < length s.links → is_some new ≡ is_some (get_or s.links j None)
-        → IfSome new (λ l. IsUpToDate s.intake.feed s.has_ended l (last_interest j last))
-        → ((start : List Window) → Goes (IsClosedRightly start) log last) → Updates j s after log last
-    updates_by lt same own goes = record {
-      links = λ k awake. elim (eqb_tells k j) [
-        | inl is ↦ rw is.1 (λ l e. each_some
-            (λ (m : LinkState). IsUpToDate s.intake.feed s.has_ended m (last_interest j last)) new own l
-            (sym (get_or-set_same s.links j new None lt) ∙ e))
-        | inr other ↦ beside k other.1 (awake other.1)
-      ];
-      is_reported = reported_beside same;
-      closed = λ start v r. goes start;
-      others = λ k ne. get_or-set_other s.links j k new None ne;
+-- It changed, and then the slot was updated.
+pub updates_after : (s : ServerState) (j : ℕ) (new : Option LinkState) {t : ServerState} {log last : List Happening}
+    → is_some new ≡ is_some (get_or s.links j None)
+    → ((start : List Window) → IsServing start s log → IsServing start (after s j new) log)
+    → Updates j (after s j new) t log last → Updates j s t log last
+updates_after s j new {log = log} same serves u =
+    let b : IsBeside j log log = nothing_beside in
+    record {
+      links = λ k awake. u.links k (λ ne. beside s j new b k ne (awake ne));
+      is_reported = λ r. u.is_reported (reported_beside s j new b same r);
+      closed = λ start v r. u.closed start (serves start v) (reported_beside s j new b same r);
+      others = λ k ne. u.others k ne ∙ get_or-set_other s.links j k new None ne;
     }
 
 -- A link was closed, and it was reported whether further ones are wanted.
@@ -111,27 +109,28 @@ module _ (s : ServerState) (j : ℕ) (log : List Happening) (lt : j < length s.l
   gone_keeps sound =
       let x : KeepsServing s without log gone =
       turns_keep s j None sound lt (gone_turns s.intake.feed j (get_or s.links j None) log) in
-      keeps_both x (keeps_one (WantsLinks (not s.has_ended)) refl (λ k. refl) x.sound)
+      keeps_both x.carries (keeps_one (WantsLinks (not s.has_ended)) refl (λ k. refl) x.sound)
 
-  pub gone_awake : (k : ℕ) → (k ≢ j → IsAwakeIn s log k) → IsAwakeIn without told k
-  gone_awake k awake = at_slot
-      (λ i o. (l : LinkState) → o ≡ Some l → IsUpToDate s.intake.feed s.has_ended l (last_interest i told))
-      s.links j None lt (λ l e. absurd (none-some l e)) k
-      (λ ne. still_awake s gone (WantsLinks (not s.has_ended)) k (λ w. refl)
-      (still_awake s log (Gone j) k (λ w. refl) (awake ne)))
-
-  pub gone_reported : is_left log ≡ s.has_ended → IsReported without told
-  gone_reported left = record {
-    links = links_last gone (WantsLinks (not s.has_ended)) true ∙ rw (
-      free_at (set s.links j None) j
-          (omega (arith, lt, length-set s.links j None)) (get_or-set_same s.links j None None lt),
-      and-true,
-    ) refl;
-    left = left_last gone (WantsLinks (not s.has_ended)) false ∙ (left_last log (Gone j) false ∙ left);
+  pub gone_updates : ((start : List Window) → IsServing start s log → IsReported s log
+      → IsClosedRightly start log (Gone j)) → Updates j s without log told
+  gone_updates right = record {
+    links = λ k awake. at_slot
+        (λ i o. (l : LinkState) → o ≡ Some l → IsUpToDate s.intake.feed s.has_ended l (last_interest i told))
+        s.links j None lt (λ l e. absurd (none-some l e)) k
+        (λ ne. still_awake s gone (WantsLinks (not s.has_ended)) k (λ w. refl)
+        (still_awake s log (Gone j) k (λ w. refl) (awake ne)));
+    is_reported = λ r. record {
+      links = links_last gone (WantsLinks (not s.has_ended)) true ∙ rw (
+        free_at (set s.links j None) j
+            (omega (arith, lt, length-set s.links j None)) (get_or-set_same s.links j None None lt),
+        and-true,
+      ) refl;
+      left = left_last gone (WantsLinks (not s.has_ended)) false ∙ (left_last log (Gone j) false ∙ r.left);
+    };
+    closed = λ start v r.
+        further gone told (WantsLinks (not s.has_ended)) (goes_one (Gone j) (right start v r)) tt refl;
+    others = λ k ne. get_or-set_other s.links j k None None ne;
   }
-
-  pub gone_goes : (start : List Window) → IsClosedRightly start log (Gone j) → Goes (IsClosedRightly start) log told
-  gone_goes start right = further gone told (WantsLinks (not s.has_ended)) (goes_one (Gone j) right) tt refl
 
 -- What was to be done with the link in a slot was done.
 module _ (s : ServerState) (j : ℕ) where
@@ -147,37 +146,38 @@ module _ (s : ServerState) (j : ℕ) where
   done_closes (outcomes.Wants w) t d = rw d.1 (closes_one (Wants j w) tt)
   done_closes outcomes.Closes t d = rw d.1 (closes_both (closes_one (Gone j) tt) (closes_one (WantsLinks _) tt))
 
-  pub done_updates : (new : Option LinkState) (u : Update) (links : List (Option LinkState)) (t : ServerState)
-      (log last : List Happening) → j < length s.links → is_some new ≡ is_some (get_or s.links j None)
-      → links ≡ set s.links j new
-      → IsOutcome s.intake.feed s.has_ended new u
-      → ((start : List Window) → IsServing start s log → IsServing start (after s j new) log)
-      → IsDone u j (record s { links = links }) t log last → Updates j s t log last
-  done_updates None outcomes.Empty links t log last lt same is out serves d = rw (d.0, d.1, is)
-      (updates_by s j None nothing_beside lt same tt (λ start. nothing))
-  done_updates (Some l) (outcomes.Wants w) links t log last lt same is out serves d = rw (d.0, d.1, is)
-      (updates_by s j (Some l) (one_beside (Wants j w) refl (λ k ne. refl)
-      (λ k ne v. ap (λ (t : Bool). if t then w else v) (not_self j k ne)) (λ b. refl) (λ b. refl)) lt same
-      (subst (IsUpToDate s.intake.feed s.has_ended l) (sym (interest_last j log (Wants j w) first_interest
-      ∙ ap (λ (t : Bool). if t then w else last_interest j log) (eq-eqb j j refl))) out)
+  still_updates : {log last : List Happening} → IsBeside j log last
+      → IfSome (get_or s.links j None) (λ l. IsUpToDate s.intake.feed s.has_ended l (last_interest j last))
+      → ((start : List Window) → Goes (IsClosedRightly start) log last) → Updates j s s log last
+  still_updates {last = last} b own goes = record {
+    links = λ k awake. elim (eqb_tells k j) [
+      | inl is ↦ rw is.1 (each_some (λ (l : LinkState). IsUpToDate s.intake.feed s.has_ended l (last_interest j last))
+          (get_or s.links j None) own)
+      | inr other ↦ λ l e. rw (b.of_links k other.1) (awake other.1 l e)
+    ];
+    is_reported = λ r. record { links = b.links ∙ r.links; left = b.left ∙ r.left };
+    closed = λ start v r. goes start;
+    others = λ k ne. refl;
+  }
+
+  pub done_updates : (o : Option LinkState) (u : Update) {t : ServerState} {log last : List Happening}
+      → get_or s.links j None ≡ o → j < length s.links → IsOutcome s.intake.feed s.has_ended o u
+      → IsDone u j s t log last → Updates j s t log last
+  done_updates None outcomes.Empty is lt out d =
+      rw (d.0, d.1) (still_updates nothing_beside (rw is tt) (λ start. nothing))
+  done_updates (Some l) (outcomes.Wants w) {log = log} is lt out d = rw (d.0, d.1) (still_updates
+      (one_beside (Wants j w) refl (λ k ne. refl)
+      (λ k ne v. ap (λ (t : Bool). if t then w else v) (not_self j k ne)) (λ b. refl) (λ b. refl))
+      (rw is (subst (IsUpToDate s.intake.feed s.has_ended l) (sym (interest_last j log (Wants j w) first_interest
+      ∙ ap (λ (t : Bool). if t then w else last_interest j log) (eq-eqb j j refl))) out))
       (λ start. goes_one (Wants j w) tt))
-  done_updates (Some l) outcomes.Closes links t log last lt same is out serves d =
-      let within : j < length (set s.links j (Some l)) = omega (arith, lt, length-set s.links j (Some l)) in
-      rw (d.0, d.1, is) (record {
-        links = λ k awake. gone_awake (after s j (Some l)) j log within k
-            (λ ne. beside s j (Some l) (nothing_beside {j = j} {log = log}) k ne (awake ne));
-        is_reported = λ r. gone_reported (after s j (Some l)) j log within r.left;
-        closed = λ start v r. gone_goes (after s j (Some l)) j log within start (inr (record {
-          server = after s j (Some l);
-          link = l;
-          serving = serves start v;
-          stood = get_or-set_same s.links j (Some l) None lt;
-          left = r.left;
-          closable = out;
-        }));
-        others = λ k ne. get_or-set_other (set s.links j (Some l)) j k None None ne
-            ∙ get_or-set_other s.links j k (Some l) None ne;
-      })
-  done_updates None (outcomes.Wants w) links t log last lt same is out serves d = absurd out
-  done_updates None outcomes.Closes links t log last lt same is out serves d = absurd out
-  done_updates (Some l) outcomes.Empty links t log last lt same is out serves d = absurd out
+  done_updates (Some l) outcomes.Closes {log = log} is lt out d =
+      rw (d.0, d.1) (gone_updates s j log lt (λ start v r. inr (record {
+        server = s;
+        link = l;
+        serving = v;
+        stood = is;
+        left = r.left;
+        closable = out;
+      })))
+  done_updates o u is lt out d = absurd out

@@ -1,5 +1,5 @@
 -- What each ring shows, once records came.
-use Rattle.std.proofs.Common.{◌≡◌, ℕ, zero, suc, ◌∙◌, ap, subst, refl, sym, Bool, true, false, List, [], ◌∷◌, not, ◌&&◌}
+use Rattle.std.proofs.Common.{◌≡◌, ℕ, zero, suc, ◌∙◌, ap, subst, refl, Bool, true, false, List, [], ◌∷◌}
 use Rattle.std.proofs.Common.{◌++◌, append_assoc, append-nil, Option, Some, None, slice_get, if◌then◌else◌}
 use Rattle.slink_feed.specs.Window.{Shows, Window, with_record}
 use Rattle.slink_feed.proofs.Items.{shows_more}
@@ -16,9 +16,6 @@ one_if t r = if t then r ∷ [] else []
 abbrev ShowsAt : Option Window → ℕ → List (List ℕ) → Type 0
 ShowsAt o first records = (v : Window) × (o ≡ Some v) × Shows v first records
 
-shows_nil : (w : Window) (first : ℕ) (xs : List (List ℕ)) → Shows w first xs → Shows w first (xs ++ [])
-shows_nil w first xs s = subst (Shows w first) (sym (append-nil xs)) s
-
 -- one record comes to the rings
 shows_first : (t : Bool) (v : Window) (ws : List Window) (r : List ℕ) (k first : ℕ) (w : Window)
     (xs : List (List ℕ)) → slice_get (v ∷ ws) k ≡ Some w → Shows w first xs → is_of_station v.place r ≡ t
@@ -26,26 +23,11 @@ shows_first : (t : Bool) (v : Window) (ws : List Window) (r : List ℕ) (k first
     → ShowsAt (slice_get (pushed ws r) j) first (xs ++ one_if (is_first j (places_of ws) r) r))
     → ShowsAt (slice_get (if t then with_record v r ∷ ws else v ∷ pushed ws r) k) first
     (xs ++ one_if (is_first k (places_of (v ∷ ws)) r) r)
-shows_first true v ws r zero first w xs here s is on = (
-  with_record v r,
-  refl,
-  subst (λ t. Shows (with_record v r) first (xs ++ one_if t r)) (sym is)
-      (shows_more v first xs r (subst (λ (x : Window). Shows x first xs) (sym (same_Some v w here)) s)),
-)
-shows_first true v ws r (suc k) first w xs here s is on = (
-  w,
-  here,
-  subst (λ t. Shows w first (xs ++ one_if (not t && is_first k (places_of ws) r) r)) (sym is)
-      (shows_nil w first xs s),
-)
-shows_first false v ws r zero first w xs here s is on = (
-  w,
-  here,
-  subst (λ t. Shows w first (xs ++ one_if t r)) (sym is) (shows_nil w first xs s),
-)
-shows_first false v ws r (suc k) first w xs here s is on =
-    subst (λ t. ShowsAt (slice_get (pushed ws r) k) first (xs ++ one_if (not t && is_first k (places_of ws) r) r))
-    (sym is) (on k here)
+shows_first true v ws r zero first w xs here s is on =
+    rw is (with_record v r, refl, shows_more v first xs r (rw (same_Some v w here) s))
+shows_first true v ws r (suc k) first w xs here s is on = rw (is, append-nil xs) (w, here, s)
+shows_first false v ws r zero first w xs here s is on = rw (is, append-nil xs) (w, here, s)
+shows_first false v ws r (suc k) first w xs here s is on = rw is (on k here)
 
 shows_pushed : (feed : List Window) (r : List ℕ) (k first : ℕ) (w : Window) (xs : List (List ℕ))
     → slice_get feed k ≡ Some w → Shows w first xs
@@ -62,7 +44,7 @@ filter_one false r xs = refl
 pub shows_fed : (feed : List Window) (rs : List (List ℕ)) (k first : ℕ) (w : Window) (xs : List (List ℕ))
     → slice_get feed k ≡ Some w → Shows w first xs
     → (v : Window) × (slice_get (fed feed rs) k ≡ Some v) × Shows v first (xs ++ records_at k (places_of feed) rs)
-shows_fed feed [] k first w xs here s = (w, here, shows_nil w first xs s)
+shows_fed feed [] k first w xs here s = (w, here, rw append-nil s)
 shows_fed feed (r ∷ rs) k first w xs here s =
     let t : Bool = is_first k (places_of feed) r in
     let one = shows_pushed feed r k first w xs here s in

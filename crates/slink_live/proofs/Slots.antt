@@ -18,11 +18,11 @@ use Rattle.slink_live.specs.Happening.{Left, Handed, first_interest, input_of, i
 use Rattle.slink_live.specs.Happening.{is_input, is_left, last_interest, left_by, left_from, links_by, links_from}
 use Rattle.slink_live.specs.Happening.{piece_of, reads_of, wants_links}
 use Rattle.slink_live.specs.Input.{IsFed, IsInput}
-use Rattle.slink_live.specs.Served.{GoesOn, IsServing, IsSound, IsHistory, LinkState, ServerState, link_state}
+use Rattle.slink_live.specs.Served.{GoesOn, IsSound, IsHistory, LinkState, ServerState, link_state}
 use Rattle.slink_live.specs.History.{IsNew, elsewhere}
 use Rattle.slink_live.specs.private.Calling.{HasFilled, HasReceived, HasTaken}
 use Rattle.slink_live.specs.Turns.{Closes, IsReport, Leaves}
-use Rattle.slink_live.specs.private.Keeping.{KeepsServing}
+use Rattle.slink_live.specs.private.Keeping.{Carries, KeepsServing}
 use Rattle.slink_live.proofs.Histories.{filled_history, gone_history, received_history, opened_history, taken_history}
 use Rattle.slink_live.proofs.Own.{no_piece}
 
@@ -112,27 +112,35 @@ not_self j k ne = elim (eqb_tells j k) [ inl same ↦ absurd (ne (sym same.1)) |
 pub history_elsewhere : (start : List Window) (k : ℕ) (o : Option LinkState) (log : List Happening) (h : Happening)
     → is_at k h ≡ false → IsHistory start k o log → IsHistory start k o (log ++ h ∷ [])
 history_elsewhere start k o log h other s = record {
-  reported = s.reported;
-  served = elsewhere log (log ++ h ∷ []) h s.reported s.served other refl;
+  past = s.past;
+  served = elsewhere log (log ++ h ∷ []) h s.past s.served other refl;
   matches = s.matches;
 }
 
--- Nothing of the input came.
-pub serving_on : (start : List Window) (s : ServerState) (links : List (Option LinkState)) (has_ended : Bool)
-    (log last : List Happening) → input_of last ≡ input_of log → reads_of last ≡ reads_of log
-    → (has_ended ≡ false → s.has_ended ≡ false) → ((k : ℕ) → IsHistory start k (get_or links k None) last)
-    → IsServing start s log → IsServing start (record s { links = links; has_ended = has_ended }) last
-serving_on start s links has_ended log last quiet read on slots v = record {
-  rest = v.rest;
-  fed = record {
-    records = v.fed.records;
-    input = subst (λ b. IsInput (places_of start) b v.fed.records v.rest) (sym quiet) v.fed.input;
-    feed_is = v.fed.feed_is;
+-- Nothing of the input came, and the history of each slot goes on.
+pub carries_on : (s : ServerState) (links : List (Option LinkState)) (has_ended : Bool) {log last : List Happening}
+    → GoesOn log last → input_of last ≡ input_of log → reads_of last ≡ reads_of log
+    → (has_ended ≡ false → s.has_ended ≡ false) → (s.has_ended ≡ true → has_ended ≡ true)
+    → length links ≡ length s.links → ((start : List Window) → IsFed start (input_of log) s.intake.feed
+    → ((k : ℕ) → IsHistory start k (get_or s.links k None) log)
+    → (k : ℕ) → IsHistory start k (get_or links k None) last)
+    → Carries s (record s { links = links; has_ended = has_ended }) log last
+carries_on s links has_ended grows quiet read on over count slots = record {
+  serving = λ start v. record {
+    rest = v.rest;
+    fed = record {
+      records = v.fed.records;
+      input = subst (λ b. IsInput (places_of start) b v.fed.records v.rest) (sym quiet) v.fed.input;
+      feed_is = v.fed.feed_is;
+    };
+    counted = v.counted;
+    goes_on = λ e. v.goes_on (on e);
+    read = v.read ∙ sym read;
+    slots = slots start (v.rest, v.fed) v.slots;
   };
-  counted = v.counted;
-  goes_on = λ e. v.goes_on (on e);
-  read = v.read ∙ sym read;
-  slots = slots;
+  unread = λ e. (over e, quiet);
+  slots = count;
+  grows = grows;
 }
 
 -- something more happened, in no slot, and it is nothing of the input
@@ -140,36 +148,36 @@ pub keeps_one : {s : ServerState} {log : List Happening} (h : Happening) → is_
     → ((k : ℕ) → is_at k h ≡ false) → IsSound s → KeepsServing s s log (log ++ h ∷ [])
 keeps_one {s} {log} h none other sound = record {
   sound = sound;
-  serving = λ start v. serving_on start s s.links s.has_ended log (log ++ h ∷ []) (input_quiet log h none)
-      (reads_quiet log h none) (λ e. e)
-      (λ k. history_elsewhere start k (get_or s.links k None) log h (other k) (v.slots k)) v;
-  stays = refl;
-  slots = refl;
-  grows = (h ∷ [], refl);
-  quiet = input_quiet log h none;
+  carries = carries_on s s.links s.has_ended (h ∷ [], refl) (input_quiet log h none) (reads_quiet log h none) (λ e. e)
+      (λ e. e) refl
+      (λ start fed v k. history_elsewhere start k (get_or s.links k None) log h (other k) (v k));
 }
 
 -- nothing happened
 pub keeps_same : {s : ServerState} {log : List Happening} → IsSound s → KeepsServing s s log log
 keeps_same {s} {log} sound = record {
   sound = sound;
-  serving = λ start v. v;
-  stays = refl;
-  slots = refl;
-  grows = ([], sym (append-nil log));
-  quiet = refl;
+  carries = record {
+    serving = λ start v. v;
+    unread = λ e. (e, refl);
+    slots = refl;
+    grows = ([], sym (append-nil log));
+  };
 }
 
 -- one step, and then another
-pub keeps_both : {s t u : ServerState} {a b c : List Happening} → KeepsServing s t a b → KeepsServing t u b c
+pub keeps_both : {s t u : ServerState} {a b c : List Happening} → Carries s t a b → KeepsServing t u b c
     → KeepsServing s u a c
-keeps_both {s} {t} {u} {a} {b} {c} x y = record {
+keeps_both {a = a} {b = b} {c = c} x y = record {
   sound = y.sound;
-  serving = λ start v. y.serving start (x.serving start v);
-  stays = y.stays ∙ ap (λ (r : ServerState). record r { links = u.links }) x.stays;
-  slots = y.slots ∙ x.slots;
-  grows = grows_both a b c x.grows y.grows;
-  quiet = y.quiet ∙ x.quiet;
+  carries = record {
+    serving = λ start v. y.carries.serving start (x.serving start v);
+    unread = λ e.
+        let before = x.unread e in
+        let later = y.carries.unread before.0 in (later.0, later.1 ∙ before.1);
+    slots = y.carries.slots ∙ x.slots;
+    grows = grows_both a b c x.grows y.carries.grows;
+  };
 }
 
 -- What happened leaves the input, and what concerns all slots but one: their histories, and what was reported of them.
@@ -251,46 +259,39 @@ module _ (feed : List Window) (j : ℕ) where
       → FitsIn feed (Some now)
   fits_now now fits before = each_some (λ (l : LinkState). Fits feed l.session.state) (Some now) fits
 
+  moves_on : {l : LinkState} (now : LinkState) {log last : List Happening} → IsBeside j log last
+      → (Fits feed l.session.state → Fits feed now.session.state)
+      → ((start : List Window) → IsFed start (input_of log) feed → IsHistory start j (Some l) log
+      → IsHistory start j (Some now) last) → ((start : List Window) → Goes (IsClosedRightly start) log last)
+      → Moves feed j (Some l) (Some now) log last
+  moves_on {l} now beside fits history goes = record {
+    turns = record { beside = beside; fits = λ f. fits_now now (fits (f l refl)) f; history = history };
+    some = refl;
+    goes = goes;
+  }
+
   pub received_moves : (o new : Option LinkState) (log last : List Happening) → HasReceived feed j o new log last
       → Moves feed j o new log last
   received_moves None new log last h = rw (h.0, h.1) moves_nothing
-  received_moves (Some l) new log last h = rw (h.2, h.3) (record {
-    turns = record {
-      beside = one_beside (Received j h.0) refl (not_self j) (λ k ne w. refl) (λ b. refl) (λ b. refl);
-      fits = fits_now h.1 h.5;
-      history = λ start fed. received_history start j log feed l h.1 h.0 fed h.4 h.6;
-    };
-    some = refl;
-    goes = λ start. goes_one (Received j h.0) tt;
-  })
+  received_moves (Some l) new log last h = rw (h.2, h.3) (moves_on h.1
+      (one_beside (Received j h.0) refl (not_self j) (λ k ne w. refl) (λ b. refl) (λ b. refl)) (λ f. h.5)
+      (λ start fed. received_history start j log feed l h.1 h.0 fed h.4 h.6) (λ start. goes_one (Received j h.0) tt))
 
   pub taken_moves : (o new : Option LinkState) (log last : List Happening) → HasTaken j o new log last
       → Moves feed j o new log last
   taken_moves None new log last h = rw (h.0, h.1) moves_nothing
-  taken_moves (Some l) new log last h = rw (h.1, h.2) (record {
-    turns = record {
-      beside = both_beside
-          (one_beside (Handed j l.pending) refl (λ k ne. refl) (λ k ne w. refl) (λ b. refl) (λ b. refl))
-          (one_beside (Emitted j (take h.0 l.pending)) refl (not_self j) (λ k ne w. refl) (λ b. refl) (λ b. refl));
-      fits = λ f. fits_now (link_state l.session l.ring (drop h.0 l.pending)) (f l refl) f;
-      history = λ start fed. taken_history start j log l h.0;
-    };
-    some = refl;
-    goes = λ start. goes_then (goes_one (Handed j l.pending) tt) (goes_one (Emitted j (take h.0 l.pending)) tt);
-  })
+  taken_moves (Some l) new log last h = rw (h.1, h.2)
+      (moves_on (link_state l.session l.ring (drop h.0 l.pending)) (both_beside
+      (one_beside (Handed j l.pending) refl (λ k ne. refl) (λ k ne w. refl) (λ b. refl) (λ b. refl))
+      (one_beside (Emitted j (take h.0 l.pending)) refl (not_self j) (λ k ne w. refl) (λ b. refl) (λ b. refl)))
+      (λ f. f) (λ start fed. taken_history start j log l h.0)
+      (λ start. goes_then (goes_one (Handed j l.pending) tt) (goes_one (Emitted j (take h.0 l.pending)) tt)))
 
   pub filled_moves : (o new : Option LinkState) (log : List Happening) → HasFilled feed o new
       → Moves feed j o new log log
   filled_moves None new log h = rw h moves_nothing
-  filled_moves (Some l) new log h = rw h.1 (record {
-    turns = record {
-      beside = nothing_beside;
-      fits = fits_now h.0 h.3;
-      history = λ start fed. filled_history start j log feed l h.0 fed h.2;
-    };
-    some = refl;
-    goes = λ start. nothing;
-  })
+  filled_moves (Some l) new log h = rw h.1 (moves_on h.0 nothing_beside (λ f. h.3)
+      (λ start fed. filled_history start j log feed l h.0 fed h.2) (λ start. nothing))
 
   pub opened_turns : (o : Option LinkState) (l : LinkState) (log : List Happening) → o ≡ None → IsNew l.session
       → l.pending ≡ [] → l.ring ≡ 0 → Fits feed l.session.state → Turns feed j o (Some l) log (log ++ Opened j ∷ [])
@@ -329,12 +330,7 @@ turns_keep s j new {log} {last} sound lt t = record {
     few = sound.few;
     few_reads = sound.few_reads;
   };
-  serving = λ start v. serving_on start s (set s.links j new) s.has_ended log last t.beside.quiet t.beside.read
-      (λ e. e)
-      (λ k. at_slot (λ i o. IsHistory start i o last) s.links j new lt (t.history start (v.rest, v.fed) (v.slots j)) k
-      (λ ne. t.beside.others start k ne (get_or s.links k None) (v.slots k))) v;
-  stays = refl;
-  slots = length-set s.links j new;
-  grows = t.beside.grows;
-  quiet = t.beside.quiet;
+  carries = carries_on s (set s.links j new) s.has_ended t.beside.grows t.beside.quiet t.beside.read (λ e. e) (λ e. e)
+      (length-set s.links j new) (λ start fed v k. at_slot (λ i o. IsHistory start i o last) s.links j new lt
+      (t.history start fed (v j)) k (λ ne. t.beside.others start k ne (get_or s.links k None) (v k)));
 }

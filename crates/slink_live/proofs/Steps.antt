@@ -1,5 +1,6 @@
 -- What a call makes of a server.
 use Rattle.std.proofs.Common.{◌≡◌, ◌≢◌, ℕ, ◌<◌, ◌≤◌, ◌∙◌, ap, subst, refl, sym, arith, inl, inr, Bool, true, false}
+use Rattle.std.proofs.Common.{append-nil}
 use Rattle.std.proofs.Common.{List, [], ◌∷◌, ◌++◌, get_or, length, Option, Some, None}
 use Rattle.std.proofs.Common.{Result, Ok, Err, IfErr}
 use Rattle.std.specs.Option.{is_some}
@@ -7,15 +8,12 @@ use Rattle.std.proofs.lemmas.Bool.{false≢true}
 use Rattle.std.proofs.lemmas.Bool.Decides.{leb_tells}
 use Rattle.std.proofs.lemmas.List.{get_or_past}
 use Rattle.slink_feed.specs.Window.{Window}
-use Rattle.slink_feed.specs.declared.input.InputFault.{InputFault}
-use Rattle.slink_feed.specs.Intake.{places_of}
-use Rattle.slink_live.specs.Happening.{Happening, Gone, WantsLinks, input_of}
-use Rattle.slink_live.specs.Input.{IsInputFault}
-use Rattle.slink_live.specs.Served.{AreEmpty, IsServing, IsSound, LinkState, ServerState}
+use Rattle.slink_live.specs.Happening.{Happening, Gone, WantsLinks}
+use Rattle.slink_live.specs.Served.{AreEmpty, IsSound, LinkState, ServerState}
 use Rattle.slink_live.specs.private.Calling.{HasReceived, HasTaken}
 use Rattle.slink_live.specs.Turns.{Closes, ReadsFrom, Removes, WritesTo}
-use Rattle.slink_live.specs.private.Keeping.{AnswersFault, KeepsServing}
-use Rattle.slink_live.proofs.Slots.{closes_both, closes_none, closes_one, serving_on}
+use Rattle.slink_live.specs.private.Keeping.{AnswersFault, Carries, KeepsServing}
+use Rattle.slink_live.proofs.Slots.{closes_both, closes_none, closes_one, carries_on}
 
 -- what holds of an error holds of what follows from it
 pub if_err_always : {X E : Type 0} → (r : Result X E) (Q : Type 0) → Q → IfErr r (λ _. Q)
@@ -55,39 +53,14 @@ ended_sound sound = record {
   few_reads = sound.few_reads;
 }
 
-pub ended_serving : (start : List Window) (s : ServerState) (log : List Happening) → IsServing start s log
-    → IsServing start (ended s) log
-ended_serving start s log v =
-    serving_on start s s.links true log log refl refl (λ e. absurd (false≢true (sym e))) v.slots v
+pub carries_end : {s : ServerState} {log : List Happening} → Carries s (ended s) log log
+carries_end {s} {log} = carries_on s s.links true ([], sym (append-nil log)) refl refl
+    (λ e. absurd (false≢true (sym e))) (λ e. refl) refl (λ start fed v. v)
 
 -- Links alone changed.
 pub answers_links : {s t : ServerState} {log last : List Happening} → KeepsServing s t log last
     → AnswersFault s t log last (Ok tt)
-answers_links x = record {
-  sound = x.sound;
-  serving = x.serving;
-  fault = tt;
-  ended = tt;
-  unread = λ e. (ap (λ (y : ServerState). y.has_ended) x.stays ∙ e, x.quiet);
-  slots = x.slots;
-  grows = x.grows;
-}
-
--- What is wrong with the input is answered, and it is read no more.
-pub answers_end : {s t : ServerState} {log last : List Happening} {r : Result (Unit {0}) InputFault}
-    → KeepsServing (ended s) t log last → IfErr r (λ e. (start : List Window) → IsServing start s log
-    → IsInputFault (places_of start) (input_of last) e) → AnswersFault s t log last r
-answers_end {s} {t} {log} {r = r} x fault =
-    let over : t.has_ended ≡ true = ap (λ (y : ServerState). y.has_ended) x.stays in
-    record {
-      sound = x.sound;
-      serving = λ start v. x.serving start (ended_serving start s log v);
-      fault = fault;
-      ended = if_err_always r (t.has_ended ≡ true) over;
-      unread = λ e. (over, x.quiet);
-      slots = x.slots;
-      grows = x.grows;
-    }
+answers_links keeps = record { keeps = keeps; fault = tt; ended = tt }
 
 pub reads_from : (feed : List Window) (j : ℕ) (o new : Option LinkState) (log mid last : List Happening)
     → HasReceived feed j o new log mid → Closes mid last → ReadsFrom o j log last

@@ -17,11 +17,7 @@ pub turn_then : (feed : List Window) (s : State) (ring k : ℕ) → ring ≤ k �
 turn_then feed s ring k beyond lt waits sends = record {
   within = lt;
   sends = sends;
-  first = λ j within earlier. elim earlier [
-    | inl side ↦ waits j side.0 side.1
-    | inr (inl wrong) ↦ absurd (omega (arith, beyond, wrong.0))
-    | inr (inr wrong) ↦ absurd (omega (arith, beyond, wrong.0))
-  ];
+  first = λ j within earlier. waits j (grind arith) (grind arith);
 }
 
 -- before it, once all from it on wait

@@ -1,45 +1,55 @@
 -- How each step of a server leaves no link asleep.
 use Rattle.std.proofs.Common.{◌≡◌, ℕ, ◌+◌, ◌<◌, ◌≤◌, ◌∙◌, subst, refl, sym, arith, inl, inr, Bool, true, false}
-use Rattle.std.proofs.Common.{IfSome, not, ◌&&◌, List, [], ◌∷◌, ◌++◌, get_or, length, set, Option, Some, None}
+use Rattle.std.proofs.Common.{IfSome, ◌≢◌, not, ◌&&◌, List, [], ◌∷◌, ◌++◌, get_or, length, set, Option, Some, None}
 use Rattle.std.proofs.lemmas.Bool.Decides.{eqb_tells}
 use Rattle.std.proofs.lemmas.List.{get_or_past}
 use Rattle.std.proofs.lemmas.Option.{none-some}
 use Rattle.slink_feed.specs.Window.{Window}
-use Rattle.slink_live.specs.declared.places.Places.{Places}
 use Rattle.slink_live.specs.declared.ready.Interest.{Interest}
-use Rattle.slink_live.specs.declared.ready.Event.{Event}
-use Rattle.slink_live.specs.declared.ready.Event.TheVariants as events
 use Rattle.slink_live.specs.Awake.{Goes, IsAwake, IsAwakeIn, IsClosedRightly, IsUpToDate, IsReported, has_free}
 use Rattle.slink_live.specs.Awake.{is_lost, nothing}
-use Rattle.slink_live.specs.Happening.{Happening, Input, Opened, Gone, Next, WantsLinks, wants_links}
-use Rattle.slink_live.specs.Happening.{Left, first_interest, is_left, last_interest, left_by, links_by, interest_after}
-use Rattle.slink_live.specs.Served.{IntakeState, IsServing, IsSound, LinkState, ServerState}
+use Rattle.slink_live.specs.Happening.{Happening, Opened, WantsLinks, wants_links}
+use Rattle.slink_live.specs.Happening.{Left, is_left, last_interest, left_by, links_by, interest_after}
+use Rattle.slink_live.specs.Served.{IsServing, IsSound, LinkState, ServerState}
 use Rattle.slink_live.specs.Turns.{Closes}
 use Rattle.slink_live.specs.private.Calling.{HasTaken, IfRested}
-use Rattle.slink_live.specs.private.Granting.{StaysBut}
-use Rattle.slink_live.specs.private.Keeping.{AreAwakeBut, Awakens, KeepsAwake, KeepsServing, Updates}
-use Rattle.slink_live.proofs.Apart.{updated_apart}
-use Rattle.slink_live.proofs.Slots.{Moves, Turns, closes_both, closes_none, goes_one, goes_then, interest_last}
+use Rattle.slink_live.specs.private.Keeping.{Awakens, KeepsAwake, KeepsServing, Updates}
+use Rattle.slink_live.proofs.Slots.{Moves, Turns, closes_both, closes_none, goes_one, goes_then}
 use Rattle.slink_live.proofs.Slots.{keeps_both, keeps_one, keeps_same, left_last, links_last, turns_keep}
-use Rattle.slink_live.proofs.Steps.{ended, ended_serving}
-use Rattle.slink_live.proofs.Reported.{after, beside, gone_awake, gone_goes, gone_reported, reported_beside}
+use Rattle.slink_live.proofs.Reported.{after, beside, reported_beside}
 use Rattle.slink_live.proofs.Reported.{still_awake}
+
+-- A step, and then one after which no link sleeps.
+pub awake_then : {P Q : Type 0} {s t u : ServerState} {a b c : List Happening}
+    → ((start : List Window) → IsServing start s a → IsServing start t b) → (P → Q)
+    → ((start : List Window) → IsServing start s a → P → Goes (IsClosedRightly start) a b) → (P → Awakens Q t u b c)
+    → Awakens P s u a c
+awake_then serving to goes on = record {
+  awake = λ p. (on p).awake (to p);
+  closed = λ start v p. goes_then (goes start v p) ((on p).closed start (serving start v) (to p));
+}
+
+-- A slot was updated, where no link slept in another.
+abbrev AreAwakeBeside : ℕ → ServerState → List Happening → Type 0
+AreAwakeBeside j s log = ((k : ℕ) → k ≢ j → IsAwakeIn s log k) × IsReported s log
+
+pub updates_awake : {j : ℕ} {s t : ServerState} {log last : List Happening} → Updates j s t log last
+    → Awakens (AreAwakeBeside j s log) s t log last
+updates_awake u = record {
+  awake = λ a. record { each = λ k. u.links k (a.0 k); is_reported = u.is_reported a.1 };
+  closed = λ start v a. u.closed start v a.1;
+}
 
 -- Something happened in a slot, and then it was updated, where no link slept.
 pub moves_awake : (s : ServerState) (j : ℕ) (new : Option LinkState) {t : ServerState} {log mid last : List Happening}
     → IsSound s → j < length s.links → Moves s.intake.feed j (get_or s.links j None) new log mid
     → (IsAwake s log → Updates j (after s j new) t mid last) → KeepsAwake s t log last
-moves_awake s j new {log = log} {mid = mid} sound lt m updates =
-    let is_reported : IsReported s log → IsReported (after s j new) mid =
-    reported_beside s j new m.turns.beside m.some in
-    record {
-      awake = λ a. record {
-        each = λ k. (updates a).links k (λ ne. beside s j new m.turns.beside k ne (a.each k));
-        is_reported = (updates a).is_reported (is_reported a.is_reported);
-      };
-      closed = λ start v a. goes_then (m.goes start) ((updates a).closed start
-          ((turns_keep s j new sound lt m.turns).serving start v) (is_reported a.is_reported));
-    }
+moves_awake s j new sound lt m updates = awake_then (turns_keep s j new sound lt m.turns).carries.serving
+    (λ a. (
+      λ k ne. beside s j new m.turns.beside k ne (a.each k),
+      reported_beside s j new m.turns.beside m.some a.is_reported,
+    )) (λ start v a. m.goes start)
+    (λ a. updates_awake (updates a))
 
 -- a link that had room has all, and goes on to have it
 pub if_rested : (s : ServerState) (j : ℕ) (o new : Option LinkState) (log mid : List Happening) → IsAwake s log
@@ -67,10 +77,6 @@ said_awake s log h same left links right = record {
   closed = λ start v a. goes_one h (right start);
 }
 
-pub next_awake : (s : ServerState) (e : Event) (log : List Happening) → IsAwake s log
-    → IsAwake s (log ++ Next e ∷ [])
-next_awake s e log = (said_awake s log (Next e) (λ k w. refl) (λ b. refl) (λ w. w) (λ start. tt)).awake
-
 -- nothing happened
 pub awake_same : {s : ServerState} {log : List Happening} → KeepsAwake s s log log
 awake_same = record { awake = λ a. a; closed = λ start v a. nothing }
@@ -84,92 +90,27 @@ opens_awake s j new {t} {log} sound lt turns updates =
     let opened : List Happening = log ++ Opened j ∷ [] in
     let wants : Happening = WantsLinks (not s.has_ended && has_free (set s.links j new)) in
     let x : KeepsServing s (after s j new) log opened = turns_keep s j new sound lt turns in
-    let is_reported : IsReported s log → IsReported (after s j new) (opened ++ wants ∷ []) = λ r. record {
-      links = links_last opened wants true;
-      left = left_last opened wants false ∙ (left_last log (Opened j) false ∙ r.left);
-    } in
-    record {
-      awake = λ a. record {
-        each = λ k. updates.links k (λ ne. still_awake (after s j new) opened wants k (λ w. refl)
-            (beside s j new turns.beside k ne (a.each k)));
-        is_reported = updates.is_reported (is_reported a.is_reported);
-      };
-      closed = λ start v a. goes_then (goes_then (goes_one (Opened j) tt) (goes_one wants tt)) (updates.closed start
-          ((keeps_both x (keeps_one wants refl (λ k. refl) x.sound)).serving start v) (is_reported a.is_reported));
-    }
-
--- a link that is gone was closed
-pub removed_awake : (s : ServerState) (j : ℕ) (log earlier : List Happening) → j < length s.links
-    → log ≡ earlier ++ Next (events.Gone j) ∷ [] → KeepsAwake s (record s { links = set s.links j None }) log
-    ((log ++ Gone j ∷ []) ++ WantsLinks (not s.has_ended) ∷ [])
-removed_awake s j log earlier lt handled = record {
-  awake = λ a. record {
-    each = λ k. gone_awake s j log lt k (λ ne. a.each k);
-    is_reported = gone_reported s j log lt a.is_reported.left;
-  };
-  closed = λ start v a. gone_goes s j log lt start (inl (earlier, handled));
-}
-
--- the server, once the input brought bytes
-abbrev pub with_intake : ServerState → IntakeState → ServerState
-with_intake s intake = record s { intake = intake; reads = s.reads + 1 }
-
--- The input brought bytes, and then the links of their stations were updated.
-pub input_awake : (s t : ServerState) (intake : IntakeState) (bytes : List ℕ) (places : Places)
-    (log last : List Happening) → length intake.feed ≡ length s.intake.feed → StaysBut places s.intake.feed intake.feed
-    → ((start : List Window) → IsServing start s log → IsServing start (with_intake s intake) (log ++ Input bytes ∷ []))
-    → Awakens (AreAwakeBut places (with_intake s intake) (log ++ Input bytes ∷ [])) (with_intake s intake) t
-    (log ++ Input bytes ∷ []) last → KeepsAwake s t log last
-input_awake s t intake bytes places log last long stays serves but =
-    let before : IsAwake s log → AreAwakeBut places (with_intake s intake) (log ++ Input bytes ∷ []) = λ a. record {
-      is_reported = record {
-        links = links_last log (Input bytes) true ∙ a.is_reported.links;
-        left = left_last log (Input bytes) false ∙ a.is_reported.left;
-      };
-      each = λ k out l is. rw (interest_last k log (Input bytes) first_interest)
-          (updated_apart _ _ _ _ _ long stays out is _ _ (a.each k l is));
-    } in
-    record {
-      awake = λ a. but.awake (before a);
-      closed = λ start v a. goes_then (goes_one (Input bytes) tt) (but.closed start (serves start v) (before a));
-    }
-
--- It brought bytes that go no further.
-pub input_ends : {s x t : ServerState} (bytes : List ℕ) {log last : List Happening}
-    → ((start : List Window) → IsServing start s log → IsServing start x (log ++ Input bytes ∷ []))
-    → Awakens (Unit {0}) x t (log ++ Input bytes ∷ []) last → KeepsAwake s t log last
-input_ends bytes serves anew = record {
-  awake = λ a. anew.awake tt;
-  closed = λ start v a. goes_then (goes_one (Input bytes) tt) (anew.closed start (serves start v) tt);
-}
-
--- it is read no more
-pub awake_end : {s t : ServerState} {log last : List Happening} → Awakens (Unit {0}) (ended s) t log last
-    → KeepsAwake s t log last
-awake_end {s} {t} {log} anew = record {
-  awake = λ a. anew.awake tt;
-  closed = λ start v a. anew.closed start (ended_serving start s log v) tt;
-}
+    awake_then (keeps_both x.carries (keeps_one wants refl (λ k. refl) x.sound)).carries.serving (λ a. (
+      λ k ne. still_awake (after s j new) opened wants k (λ w. refl) (beside s j new turns.beside k ne (a.each k)),
+      record {
+        links = links_last opened wants true;
+        left = left_last opened wants false ∙ (left_last log (Opened j) false ∙ a.is_reported.left);
+      },
+    )) (λ start v a. goes_then (goes_one (Opened j) tt) (goes_one wants tt)) (λ a. updates_awake updates)
 
 -- the input is read no more, and no link is wanted
 pub leaves_keep : (s : ServerState) (log : List Happening) → IsSound s
     → KeepsServing s s log ((log ++ Left ∷ []) ++ WantsLinks false ∷ [])
 leaves_keep s log sound =
-    keeps_both (keeps_one Left refl (λ k. refl) sound) (keeps_one (WantsLinks false) refl (λ k. refl) sound)
+    keeps_both (keeps_one Left refl (λ k. refl) sound).carries (keeps_one (WantsLinks false) refl (λ k. refl) sound)
 
 pub leaves_awake : (s t : ServerState) (log last : List Happening) → IsSound s → s.has_ended ≡ true
     → Awakens (IsReported s ((log ++ Left ∷ []) ++ WantsLinks false ∷ [])) s t
     ((log ++ Left ∷ []) ++ WantsLinks false ∷ []) last → Awakens (Unit {0}) s t log last
-leaves_awake s t log last sound over all =
-    let is_reported : IsReported s ((log ++ Left ∷ []) ++ WantsLinks false ∷ []) = record {
-      links = rw over (links_last (log ++ Left ∷ []) (WantsLinks false) true);
-      left = rw over (left_last (log ++ Left ∷ []) (WantsLinks false) false ∙ left_last log Left false);
-    } in
-    record {
-      awake = λ u. all.awake is_reported;
-      closed = λ start v u. goes_then (goes_then (goes_one Left tt) (goes_one (WantsLinks false) tt))
-          (all.closed start ((leaves_keep s log sound).serving start v) is_reported);
-    }
+leaves_awake s t log last sound over all = awake_then (leaves_keep s log sound).carries.serving (λ u. record {
+  links = rw over (links_last (log ++ Left ∷ []) (WantsLinks false) true);
+  left = rw over (left_last (log ++ Left ∷ []) (WantsLinks false) false ∙ left_last log Left false);
+}) (λ start v u. goes_then (goes_one Left tt) (goes_one (WantsLinks false) tt)) (λ u. all)
 
 -- Slots up to one were updated, but for some whose links didn't sleep.
 pub record HasUpdated (Rests : ℕ → Type 0) (s t : ServerState) (n : ℕ) (log last : List Happening) : Type 0 where
@@ -195,13 +136,13 @@ pub updated_more : {Rests : ℕ → Type 0} {s t u : ServerState} {n : ℕ} {log
     → HasUpdated Rests s t n log mid → KeepsServing t u mid last → Closes mid last → Updates n t u mid last
     → HasUpdated Rests s u (n + 1) log last
 updated_more h keeps closes updates = record {
-  keeps = keeps_both h.keeps keeps;
+  keeps = keeps_both h.keeps.carries keeps;
   closes = closes_both h.closes closes;
   each = λ k past rests. updates.links k (λ ne. h.each k (λ le. past (omega (arith, le, ne))) rests);
   rest = λ k le. updates.others k (λ e. omega (arith, le, e)) ∙ h.rest k (omega (arith, le));
   is_reported = λ r. updates.is_reported (h.is_reported r);
   closed = λ start v r. goes_then (h.closed start v r)
-      (updates.closed start (h.keeps.serving start v) (h.is_reported r));
+      (updates.closed start (h.keeps.carries.serving start v) (h.is_reported r));
 }
 
 -- one more, in which no link slept

@@ -7,7 +7,7 @@ use Rattle.slink_feed.specs.declared.session.Phase.TheVariants.{Streaming, Close
 use Rattle.slink_feed.specs.Session.{Grants, IsWaiting, State, grant_at}
 use Rattle.slink_feed.specs.Window.{Window, oldest_of}
 use Rattle.slink_live.specs.declared.link.TheConstants.{REPLY}
-use Rattle.slink_live.specs.declared.pending.TheConstants.{ROOM}
+use Rattle.slink_live.specs.declared.pending.TheConstants.{MOST_PENDING}
 use Rattle.slink_live.specs.declared.ready.Interest.{Interest}
 use Rattle.slink_live.specs.declared.ready.Event.TheVariants as events
 use Rattle.slink_live.specs.Happening.{Happening, Gone, Next, is_left, last_interest, wants_links}
@@ -50,11 +50,11 @@ pub data IsClosable (feed : List Window) (has_ended : Bool) (l : LinkState) : Ty
 
 -- There is room for the replies to a byte of a link.
 abbrev pub HasRoom : LinkState → Type 0
-HasRoom l = length l.pending + REPLY ≤ ROOM
+HasRoom l = length l.pending + REPLY ≤ MOST_PENDING
 
 -- Nothing more is due to a link, or there is no room for a packet.
 abbrev pub IsFilled : List Window → LinkState → Type 0
-IsFilled feed l = length l.pending + PACKET ≤ ROOM
+IsFilled feed l = length l.pending + PACKET ≤ MOST_PENDING
     → IsWaiting feed l.session.state ⊎ (l.session.state.phase ≡ Closed)
 
 -- It has bytes pending, and it was reported to the device that it wants to write; or nothing more is due to it.
@@ -67,7 +67,7 @@ pub record IsUpToDate (feed : List Window) (has_ended : Bool) (l : LinkState) (i
   pub stands : ¬ (IsClosable feed has_ended l)
   pub sleeps : Sleeps feed l interest
   pub filled : IsFilled feed l
-  pub most : length l.pending ≤ ROOM
+  pub most : length l.pending ≤ MOST_PENDING
   pub reads : (interest.reads ≡ true) ↔ HasRoom l
   pub streams : (interest.is_streaming ≡ true) ↔ (l.session.state.phase ≡ Streaming)
 

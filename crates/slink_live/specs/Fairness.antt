@@ -1,6 +1,6 @@
 -- No station of a link is passed over.
 use Rattle.std.specs.Prelude.{◌≡◌, ◌≢◌, ℕ, ◌+◌, ◌<◌, ◌⊎◌, List, [], ◌∷◌, Some, slice_get}
-use Rattle.slink_wire.specs.declared.lines.What.{What}
+use Rattle.slink_wire.specs.declared.lines.LineOutcome.{LineOutcome}
 use Rattle.slink_wire.specs.declared.reply.Reply.{Reply}
 use Rattle.slink_feed.specs.declared.grant.Grant.{Grant}
 use Rattle.slink_feed.specs.declared.session.Phase.TheVariants.{Streaming}
@@ -25,7 +25,7 @@ pub data TakesTurnsOn : List Window → State → ℕ → List ℕ → List Wind
   comes : (feed : List Window) (records : List (List ℕ)) (s : State) (last : List Window) (t : State) (ring turn : ℕ)
       (ks : List ℕ) → TakesTurnsOn (fed feed records) s ring ks last t turn → TakesTurnsOn feed s ring ks last t turn
   hears : (feed : List Window) (s now : State) (last : List Window) (t : State) (ring turn : ℕ) (ks : List ℕ)
-      (what : What) (reply : Reply) → IsAnswer feed s what now reply → TakesTurnsOn feed now ring ks last t turn
+      (what : LineOutcome) (reply : Reply) → IsAnswer feed s what now reply → TakesTurnsOn feed now ring ks last t turn
       → TakesTurnsOn feed s ring ks last t turn
   called_on : (feed : List Window) (s now : State) (last : List Window) (t : State) (ring turn k : ℕ) (answer : Sent)
       (ks : List ℕ) → IsTurn feed s ring k → sent feed s k ≡ (now, answer)

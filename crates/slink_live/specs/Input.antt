@@ -41,12 +41,12 @@ abbrev pub IsFed : List Window → List ℕ → List Window → Type 0
 IsFed start bytes feed = (rest : List ℕ) × IsFedTo start bytes feed rest
 
 -- No record of these stations begins so: the record of this length that is there isn't one, or more bytes than 512 are
--- needed, at least so many: those of the record, where its length is known by then.
+-- needed, at least `size`: those of the record, where its length is known by then.
 abbrev pub IsForeign : List Fields → List ℕ → ℕ → Type 0
 IsForeign places leading size = (Decides leading (scans.Record size) × ¬ (IsOf places (take size leading)))
     ⊎ (Decides leading (scans.Need size) × (512 < size))
 
--- What is wrong with the rest after so many records: bytes that begin no record, or none of these stations; a record
+-- What is wrong with the rest after `n` records: bytes that begin no record, or none of these stations; a record
 -- that the input ended within; a read that failed, or 2^40 of them.
 abbrev pub IsFaultIn : List Fields → ℕ → List ℕ → InputFault → Type 0
 IsFaultIn places n rest (Stream (Frame offset fault)) = (leading more : List ℕ) × (rest ≡ leading ++ more)

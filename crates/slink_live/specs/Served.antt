@@ -4,6 +4,7 @@ use Rattle.std.specs.Prelude.{Some, None, slice_get}
 use Rattle.slink_feed.specs.Serving.{SessionState}
 use Rattle.slink_feed.specs.Session.{Fits}
 use Rattle.slink_feed.specs.Window.{Window}
+use Rattle.slink_live.specs.declared.intake.TheConstants.{INPUT}
 use Rattle.slink_live.specs.Happening.{Happening, input_of, reads_of}
 use Rattle.slink_live.specs.Input.{IsFedTo, MayBegin}
 use Rattle.slink_live.specs.History.{IsServed, History}
@@ -44,8 +45,8 @@ pub record IsSound (s : ServerState) : Type 0 where
   pub short : s.has_ended ≡ false → length s.intake.kept < 512
   pub begins : s.has_ended ≡ false → MayBegin s.intake.kept
   pub fit : AllFit s.intake.feed s.links
-  pub below : IsBelow (2 ^ 62 + 8192 * s.reads) s.intake.feed
-  pub few : s.intake.records ≤ 8192 * s.reads
+  pub below : IsBelow (2 ^ 62 + INPUT * s.reads) s.intake.feed
+  pub few : s.intake.records ≤ INPUT * s.reads
   pub few_reads : s.reads ≤ 2 ^ 40
 
 -- A slot has a link where the history has one: with its session and the station that is called next, and what that sent
@@ -53,13 +54,13 @@ pub record IsSound (s : ServerState) : Type 0 where
 abbrev pub Matches : Option LinkState → Option History → Type 0
 Matches None None = Unit {0}
 Matches (Some l) (Some t) = (t.session ≡ l.session) × (t.ring ≡ l.ring) × (t.produced ≡ t.emitted ++ l.pending)
-Matches o reported = ⊥
+Matches o past = ⊥
 
 -- what happened in a slot comes to a history that its link matches
 pub record IsHistory (start : List Window) (k : ℕ) (o : Option LinkState) (log : List Happening) : Type 0 where
-  pub reported : Option History
-  pub served : IsServed start k log reported
-  pub matches : Matches o reported
+  pub past : Option History
+  pub served : IsServed start k log past
+  pub matches : Matches o past
 
 -- The server has served its input and its links, from these rings on, by what happened.
 pub record IsServing (start : List Window) (s : ServerState) (log : List Happening) : Type 0 where

@@ -1,5 +1,5 @@
 -- What a server does with each event that the device reports, and when it stops.
-use Rattle.std.specs.Prelude.{◌≡◌, ◌≢◌, ℕ, true, false, not, ◌&&◌, ◌+◌, ◌*◌, ◌<◌, ◌^◌, List, [], ◌∷◌, ◌++◌, length}
+use Rattle.std.specs.Prelude.{◌≡◌, ◌≢◌, ℕ, true, false, not, ◌&&◌, ◌+◌, ◌*◌, ◌<◌, ◌≤◌, ◌^◌, List, [], ◌∷◌, ◌++◌, length}
 use Rattle.std.specs.Prelude.{take, get_or, Option, Some, None, Result, Ok, Err}
 use Rattle.std.specs.List.{AllByRecursion}
 use Rattle.mseed_stream.specs.declared.fault.StreamFault.TheVariants as faults
@@ -55,14 +55,15 @@ abbrev pub Removes : Option LinkState → ℕ → List Happening → List Happen
 Removes None k log last = Closes log last
 Removes (Some l) k log last = Calls log (Gone k) last
 
--- Of bytes of the input, while it is read: they are read, and go on with it up to a rest with which a record may begin;
--- or they are wrong. Or it was read too often. Where something is wrong, it is read no more.
+-- Of bytes of the input, while it is read: they are read, at most 4,096 of them, and go on with it up to a rest with
+-- which a record may begin; or they are wrong. Or it was read too often. Where something is wrong, it is read no more.
 pub data ReadsInput (s : ServerState) (log last : List Happening) : Answer → Type 0 where
   reads : (bytes rest : List ℕ) (records : List (List ℕ)) → s.has_ended ≡ false → s.reads < 2 ^ 40
-      → IsInput (places_of s.intake.feed) (s.intake.kept ++ bytes) records rest → MayBegin rest
+      → length bytes ≤ 4096 → IsInput (places_of s.intake.feed) (s.intake.kept ++ bytes) records rest → MayBegin rest
       → Calls log (Input bytes) last → ReadsInput s log last (Ok tt)
   finds_wrong : (bytes rest : List ℕ) (records : List (List ℕ)) (fault : InputFault) → s.has_ended ≡ false
-      → s.reads < 2 ^ 40 → IsInput (places_of s.intake.feed) (s.intake.kept ++ bytes) records rest
+      → s.reads < 2 ^ 40 → length bytes ≤ 4096
+      → IsInput (places_of s.intake.feed) (s.intake.kept ++ bytes) records rest
       → IsFaultIn (places_of s.intake.feed) (s.intake.records + length records) rest fault → IsOfBytes fault
       → Leaves (log ++ Input bytes ∷ []) last → ReadsInput s log last (Err fault)
   too_often : s.has_ended ≡ false → s.reads ≡ 2 ^ 40 → Leaves log last
@@ -99,7 +100,7 @@ IsCalled (events.Writable k) s log last answer = WritesTo (get_or s.links k None
 IsCalled (events.Gone k) s log last answer = Removes (get_or s.links k None) k log last × (answer ≡ Ok tt)
 IsCalled events.Nothing s log last answer = (last ≡ log) × (answer ≡ Ok tt)
 
--- How a server of so many slots stands when the device is asked what can be done next: it has served what happened, and
+-- How a server of `slots` slots stands when the device is asked what can be done next: it has served what happened, and
 -- no link sleeps.
 pub record Stands (start : List Window) (slots : ℕ) (s : ServerState) (log : List Happening) : Type 0 where
   pub serving : IsServing start s log

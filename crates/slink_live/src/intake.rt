@@ -20,6 +20,10 @@ use std::marker::Model;
 /// The bytes of each record of a feed.
 const RECORD: usize = 512;
 
+/// The most bytes of the input that are read at once: eight records, since a link takes up to twelve packets in
+/// between, and so keeps up with an input that is always ready.
+pub(crate) const INPUT: usize = 4_096;
+
 /// The rings, the bytes of the input after its last whole record, and how many records there were.
 #[derive(Drop)]
 pub(crate) struct Intake {
@@ -61,7 +65,7 @@ impl Intake {
         512 * self.records
     }
 
-    /// Takes bytes of the input, at most 8,192. Each record goes to its ring as soon as it is whole. Returns the
+    /// Takes bytes of the input, at most 4,096. Each record goes to its ring as soon as it is whole. Returns the
     /// stations that got a record.
     ///
     /// # Errors
@@ -71,7 +75,7 @@ impl Intake {
     pub(crate) fn take(&mut self, bytes: &[u8]) -> Result<Places, InputFault>
         requires short { length self.old.kept < RECORD }
         requires begins { MayBegin self.old.kept }
-        requires size { length bytes.now ≤ 8192 }
+        requires size { length bytes.now ≤ INPUT }
         requires below { IsBelow (2 ^ 62 + 2 ^ 54) self.old.feed }
         requires few { self.old.records ≤ 2 ^ 53 }
         ensures ok { OnOk result (Cuts self.old bytes.now self.new self.new.kept) }
@@ -91,7 +95,7 @@ impl Intake {
         Ok(places)
     }
 
-    /// How many of so many bytes are kept: as many as a record of 512 bytes still lacks.
+    /// How many of the bytes that are left are kept: as many as a record of 512 bytes still lacks.
     fn wanted(&self, left: usize) -> usize
         requires short { length self.now.kept < RECORD }
         requires left { 0 < left }

@@ -15,16 +15,16 @@ ghost use Rattle.slink_live.specs.Slices.{ProducesSlices, records_at};
 
 /// Of a link only what happened in its slot matters, and the input.
 pub fn no_other_link_matters()
-    ensures { (start : List Window) (k : ℕ) (log : List Happening) (reported : Option History)
-        → IsServed start k log reported → IsServed start k (those_of k log) reported }
+    ensures { (start : List Window) (k : ℕ) (log : List Happening) (past : Option History)
+        → IsServed start k log past → IsServed start k (those_of k log) past }
 {}
 
 /// A slot has a history at each moment: what happened up to there comes to one, by which the link that stood there
 /// accepted a prefix of what its session had sent.
 pub fn each_moment_has_a_history()
-    ensures { (start : List Window) (k : ℕ) (before after : List Happening) (reported : Option History)
-        → IsServed start k (before ++ after) reported
-        → (reported_then : Option History) × IsServed start k before reported_then }
+    ensures { (start : List Window) (k : ℕ) (before after : List Happening) (past : Option History)
+        → IsServed start k (before ++ after) past
+        → (earlier : Option History) × IsServed start k before earlier }
 {}
 
 /// An input has one list of records, in whatever pieces it came, and so its rings come to one thing. More of it appends
@@ -49,9 +49,9 @@ pub fn input_in_order()
 /// it of one link alone: replies, and then packets, of which those of each station are a slice of its records from the
 /// grant on. Whatever the other links say and take, and in whatever order.
 pub fn a_link_is_sent_slices()
-    ensures { (start : List Window) (k : ℕ) (log : List Happening) (reported : History) (records : List (List ℕ))
-        (rest : List ℕ) → IsServed start k log (Some reported) → IsInput (places_of start) (input_of log) records rest
-        → ProducesSlices start records reported.produced }
+    ensures { (start : List Window) (k : ℕ) (log : List Happening) (past : History) (records : List (List ℕ))
+        (rest : List ℕ) → IsServed start k log (Some past) → IsInput (places_of start) (input_of log) records rest
+        → ProducesSlices start records past.produced }
 {}
 
 /// A link's session is called in turns. Between two calls for a station, while nothing comes, each other station that

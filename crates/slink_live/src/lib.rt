@@ -16,6 +16,7 @@ pub use law::{
     no_other_link_matters, other_places_change_nothing,
 };
 pub use log::Log;
+pub use pending::MOST_PENDING;
 pub use ready::{Event, Interest, Ready};
 pub use server::Server;
 pub use slink_feed::InputFault;

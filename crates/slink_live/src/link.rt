@@ -2,6 +2,7 @@
 ghost use Rattle.std.specs.Prelude.{◌≡◌, ◌≢◌, ◌↔◌, ◌⊎◌, ◌+◌, ◌*◌, ◌<◌, ◌≤◌, [], ◌++◌, drop, length, List, true};
 ghost use Rattle.std.specs.Prelude.{ℕ, IfNone, IfSome};
 ghost use Rattle.std.specs.Bool.{OnFalse, OnTrue};
+ghost use Rattle.slink_wire.specs.declared.limits.TheConstants.{STATIONS};
 ghost use Rattle.slink_feed.specs.declared.session.Phase.{Phase};
 ghost use Rattle.slink_feed.specs.declared.session.Sent.{Sent};
 ghost use Rattle.slink_feed.specs.Serving.{Serves};
@@ -13,7 +14,7 @@ ghost use Rattle.slink_live.specs.Served.{LinkState, link_state};
 ghost use Rattle.slink_live.specs.private.Calling.{Gives, IsRested};
 ghost use Rattle.slink_live.specs.private.Granting.{AreDue, Covers, Has};
 
-use crate::pending::{Pending, ROOM};
+use crate::pending::{MOST_PENDING, Pending};
 use crate::places::Places;
 use crate::ready::Interest;
 use slink_feed::{Feed, Session, Unsent};
@@ -27,7 +28,7 @@ const REPLY: usize = 35;
 pub(crate) const PIECE: usize = 64;
 
 /// So often a session is called at most at a time: for the packets that there is room for, and for its end.
-const ASKS: u32 = 13;
+const ASKS: usize = MOST_PENDING / PACKET + 1;
 
 /// What is to be done with a link whose packets were queued.
 #[derive(Clone, Copy, Debug, PartialEq, Eq)]
@@ -72,11 +73,11 @@ impl Link {
 
     /// How many bytes can be read now, so that there is room for each reply.
     pub(crate) fn readable(&self) -> usize
-        ensures room { length self.now.pending + REPLY * result ≤ ROOM }
+        ensures room { length self.now.pending + REPLY * result ≤ MOST_PENDING }
         ensures most { result ≤ PIECE }
         ensures some { HasRoom self.now → 0 < result }
     {
-        ((ROOM - self.pending.len()) / REPLY).min(PIECE)
+        ((MOST_PENDING - self.pending.len()) / REPLY).min(PIECE)
     }
 
     /// What is left to be written.
@@ -179,10 +180,10 @@ impl Link {
 
     /// Whether there is room for a packet.
     pub(crate) fn has_room(&self) -> bool
-        ensures yes { OnTrue result (length self.now.pending + PACKET ≤ ROOM) }
-        ensures no { OnFalse result (ROOM < length self.now.pending + PACKET) }
+        ensures yes { OnTrue result (length self.now.pending + PACKET ≤ MOST_PENDING) }
+        ensures no { OnFalse result (MOST_PENDING < length self.now.pending + PACKET) }
     {
-        self.pending.len() <= ROOM - PACKET
+        self.pending.len() <= MOST_PENDING - PACKET
     }
 
     /// What is wanted of the link: reading where there is room for replies, writing where bytes are pending.
@@ -190,7 +191,7 @@ impl Link {
         ensures reads { (result.reads ≡ true) ↔ HasRoom self.now }
         ensures writes { (result.writes ≡ true) ↔ (self.now.pending ≢ []) }
         ensures streams { (result.is_streaming ≡ true) ↔ (self.now.session.state.phase ≡ Phase.Streaming) }
-        ensures most { length self.now.pending ≤ ROOM }
+        ensures most { length self.now.pending ≤ MOST_PENDING }
     {
         Interest {
             reads: self.readable() > 0,
@@ -219,7 +220,7 @@ impl Link {
     /// Takes what the link brought: the session answers each line.
     pub(crate) fn receive(&mut self, feed: &Feed, bytes: &[u8])
         requires fits { Fits feed.now self.old.session.state }
-        requires room { length self.old.pending + REPLY * length bytes.now ≤ ROOM }
+        requires room { length self.old.pending + REPLY * length bytes.now ≤ MOST_PENDING }
         ensures serves { Serves feed.now self.old.session bytes.now self.old.pending self.new.session
             self.new.pending }
         ensures ring { self.new.ring ≡ self.old.ring }
@@ -235,7 +236,7 @@ impl Link {
 
     /// Queues bytes, to be sent after those that are pending.
     fn queue(&mut self, bytes: &[u8])
-        requires { length self.old.pending + length bytes.now ≤ ROOM }
+        requires { length self.old.pending + length bytes.now ≤ MOST_PENDING }
         ensures { self.new ≡ record self.old { pending = self.old.pending ++ bytes.now } }
     {
         self.pending.queue(bytes);
@@ -305,7 +306,7 @@ impl Link {
 
     /// Asks for the packet of a station of which a record is due. Returns the stations of which one is due then.
     fn ask_due(&mut self, feed: &Feed, k: usize, due: Places) -> Places
-        requires room { length self.old.pending + PACKET ≤ ROOM }
+        requires room { length self.old.pending + PACKET ≤ MOST_PENDING }
         requires fits { Fits feed.now self.old.session.state }
         requires due { AreDue feed.now self.old.session.state due (length feed.now) }
         requires turn { Has due k }
@@ -331,7 +332,7 @@ impl Link {
 
     /// Queues the END, where all that was requested is sent, and no record that comes is requested.
     fn end(&mut self, feed: &Feed)
-        requires room { length self.old.pending + PACKET ≤ ROOM }
+        requires room { length self.old.pending + PACKET ≤ MOST_PENDING }
         requires fits { Fits feed.now self.old.session.state }
         requires streams { self.old.session.state.phase ≡ Phase.Streaming }
         requires none { (k : ℕ) → k < length feed.now → IsAtNext feed.now self.old.session.state.grants k }
@@ -347,7 +348,7 @@ impl Link {
 
     /// Asks for the packet of the next station that has something to send, and returns whether one has.
     fn ask(&mut self, feed: &Feed) -> bool
-        requires room { length self.old.pending + PACKET ≤ ROOM }
+        requires room { length self.old.pending + PACKET ≤ MOST_PENDING }
         requires fits { Fits feed.now self.old.session.state }
         ensures yes { OnTrue result (Asks feed.now self.old.session self.old.ring self.old.pending self.new.session
             self.new.ring self.new.pending) }
@@ -377,8 +378,8 @@ impl Link {
     /// Asks for the next packet of a station, and returns whether something is sent of it.
     fn ask_at(&mut self, feed: &Feed, k: usize) -> bool
         requires within { k < length feed.now }
-        requires few { k < 16 }
-        requires room { length self.old.pending + PACKET ≤ ROOM }
+        requires few { k < STATIONS }
+        requires room { length self.old.pending + PACKET ≤ MOST_PENDING }
         requires fits { Fits feed.now self.old.session.state }
         ensures yes { OnTrue result (Gives feed.now k self.old self.new) }
         ensures no { OnFalse result
@@ -401,7 +402,7 @@ impl Link {
         }
     }
 
-    /// Notes that the link accepted so many bytes.
+    /// Notes that the link accepted `count` bytes.
     pub(crate) fn taken(&mut self, count: usize)
         requires { count ≤ length self.old.pending }
         ensures { self.new ≡ record self.old { pending = drop count self.old.pending } }

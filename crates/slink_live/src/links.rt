@@ -10,7 +10,7 @@ ghost use Rattle.slink_live.specs.private.Calling.{HasFilled, HasReceived, HasTa
 ghost use Rattle.slink_live.specs.private.Granting.{AreCovered, Changes, CoversIn, LeavesOut};
 
 use crate::link::{Link, PIECE, Update};
-use crate::pending::ROOM;
+use crate::pending::MOST_PENDING;
 use crate::places::Places;
 use crate::ready::Ready;
 use slink_feed::Feed;
@@ -34,7 +34,7 @@ impl Model for Links {
     ghost invariant = { λ s. AreCovered s.slots.items s.granted.items };
 }
 
-/// So many slots without a link.
+/// A list of `count` slots without a link.
 fn slots(alloc: Global, count: usize) -> Result<Vec<Option<Link>>, AllocError>
     ensures empty { IfOk result (λ slots. AreEmpty slots.items) }
     ensures count { IfOk result (λ slots. length slots.items ≡ count) }
@@ -46,7 +46,7 @@ fn slots(alloc: Global, count: usize) -> Result<Vec<Option<Link>>, AllocError>
     Ok(slots)
 }
 
-/// No stations for each of so many slots.
+/// No stations for each of `count` slots.
 fn no_grants(alloc: Global, count: usize) -> Result<Vec<Places>, AllocError>
     ensures count { IfOk result (λ granted. length granted.items ≡ count) }
 {
@@ -80,7 +80,7 @@ fn receive<R: Ready>(link: &mut Option<Link>, feed: &Feed, slot: usize, ready: &
 /// a packet before: then nothing more is due.
 fn send<R: Ready>(link: &mut Option<Link>, slot: usize, ready: &mut R) -> bool
     ensures taken { HasTaken slot link.old link.new (R.log ready.old) (R.log ready.new) }
-    ensures rests { OnTrue result (IfSome link.old (λ l. length l.pending + PACKET ≤ ROOM)) }
+    ensures rests { OnTrue result (IfSome link.old (λ l. length l.pending + PACKET ≤ MOST_PENDING)) }
 {
     match link {
         Some(link) => {
@@ -129,7 +129,7 @@ fn fill(link: &mut Option<Link>, feed: &Feed, has_ended: bool) -> Update
 }
 
 impl Links {
-    /// So many slots without a link.
+    /// The links of `count` slots, none of which has one yet.
     ///
     /// # Errors
     ///
@@ -200,7 +200,8 @@ impl Links {
     pub(crate) fn send<R: Ready>(&mut self, slot: usize, ready: &mut R) -> bool
         requires { slot < length self.old }
         ensures taken { Changes slot (λ o l. HasTaken slot o l (R.log ready.old) (R.log ready.new)) self.old self.new }
-        ensures rests { OnTrue result (IfSome (get_or self.old slot None) (λ l. length l.pending + PACKET ≤ ROOM)) }
+        ensures rests { OnTrue result
+            (IfSome (get_or self.old slot None) (λ l. length l.pending + PACKET ≤ MOST_PENDING)) }
     {
         send(&mut self.slots[slot], slot, ready)
     }

@@ -2,14 +2,14 @@
 ghost use Rattle.std.specs.Prelude.{◌≡◌, ◌≢◌, ◌+◌, ◌-◌, ◌^◌, ◌<◌, ◌≤◌, [], ◌++◌, drop, length, take};
 ghost use Rattle.std.specs.Bool.{OnFalse, OnTrue};
 ghost use Rattle.slink_wire.specs.Packet.{packet_bytes};
-ghost use Rattle.slink_live.specs.declared.pending.TheConstants.{ROOM};
+ghost use Rattle.slink_live.specs.declared.pending.TheConstants.{MOST_PENDING};
 ghost use Rattle.slink_live.specs.private.Waiting.{Waiting};
 
 use slink_wire::{PACKET, Packet};
 use std::marker::Model;
 
-/// The most bytes that wait to be written: twelve packets.
-pub(crate) const ROOM: usize = 12 * PACKET;
+/// The most bytes that wait to be written to a link: twelve packets.
+pub const MOST_PENDING: usize = 12 * PACKET;
 
 /// Bytes that wait to be written, in order. Those that a link accepted leave room at the front, and the others move
 /// there only when there is no room after them.
@@ -19,20 +19,20 @@ pub(crate) struct Pending {
     begin: u16,
     // From here on there is room.
     end: u16,
-    bytes: [u8; ROOM],
+    bytes: [u8; MOST_PENDING],
 }
 
 impl Model for Pending {
     ghost Value = { Waiting };
 
-    ghost view = { λ p. record { bytes = drop p.begin (take p.end p.bytes); room = ROOM - p.end } };
+    ghost view = { λ p. record { bytes = drop p.begin (take p.end p.bytes); room = MOST_PENDING - p.end } };
 
-    ghost invariant = { λ p. (p.begin ≤ p.end) × (p.end ≤ ROOM) };
+    ghost invariant = { λ p. (p.begin ≤ p.end) × (p.end ≤ MOST_PENDING) };
 }
 
 /// Puts bytes at an offset.
-fn put_bytes(room: &mut [u8; ROOM], at: usize, bytes: &[u8])
-    requires { at + length bytes.now ≤ ROOM }
+fn put_bytes(room: &mut [u8; MOST_PENDING], at: usize, bytes: &[u8])
+    requires { at + length bytes.now ≤ MOST_PENDING }
     ensures { take (at + length bytes.now) room.new ≡ take at room.old ++ bytes.now }
 {
     room[at..at + bytes.len()].copy_from_slice(bytes);
@@ -52,8 +52,8 @@ fn fill_packet(room: &mut [u8], number: u32, bytes: &[u8; 512])
 }
 
 /// Puts the packet of a record at an offset.
-fn put_packet(room: &mut [u8; ROOM], at: usize, number: u32, bytes: &[u8; 512])
-    requires room { at + PACKET ≤ ROOM }
+fn put_packet(room: &mut [u8; MOST_PENDING], at: usize, number: u32, bytes: &[u8; 512])
+    requires room { at + PACKET ≤ MOST_PENDING }
     requires number { number < 2 ^ 24 }
     ensures value { take (at + PACKET) room.new ≡ take at room.old ++ packet_bytes number bytes.now }
     ensures size { length (packet_bytes number bytes.now) ≡ PACKET }
@@ -69,14 +69,14 @@ impl Pending {
         Pending {
             begin: 0,
             end: 0,
-            bytes: [0; ROOM],
+            bytes: [0; MOST_PENDING],
         }
     }
 
     /// Returns all bytes that wait.
     pub(crate) fn as_slice(&self) -> &[u8]
         ensures value { result.now ≡ self.now.bytes }
-        ensures most { length result.now ≤ ROOM }
+        ensures most { length result.now ≤ MOST_PENDING }
     {
         &self.bytes[usize::from(self.begin)..usize::from(self.end)]
     }
@@ -84,7 +84,7 @@ impl Pending {
     /// Returns how many bytes wait.
     pub(crate) fn len(&self) -> usize
         ensures value { result ≡ length self.now.bytes }
-        ensures most { result ≤ ROOM }
+        ensures most { result ≤ MOST_PENDING }
     {
         usize::from(self.end - self.begin)
     }
@@ -99,7 +99,7 @@ impl Pending {
 
     /// Appends bytes to those that wait.
     pub(crate) fn queue(&mut self, bytes: &[u8])
-        requires { length self.old.bytes + length bytes.now ≤ ROOM }
+        requires { length self.old.bytes + length bytes.now ≤ MOST_PENDING }
         ensures { self.new.bytes ≡ self.old.bytes ++ bytes.now }
     {
         self.make_room(bytes.len());
@@ -109,7 +109,7 @@ impl Pending {
 
     /// Appends the packet of a record, with its number modulo 2^24, to the bytes that wait.
     pub(crate) fn queue_packet(&mut self, number: u32, bytes: &[u8; 512])
-        requires room { length self.old.bytes + PACKET ≤ ROOM }
+        requires room { length self.old.bytes + PACKET ≤ MOST_PENDING }
         requires number { number < 2 ^ 24 }
         ensures value { self.new.bytes ≡ self.old.bytes ++ packet_bytes number bytes.now }
         ensures size { length (packet_bytes number bytes.now) ≡ PACKET }
@@ -119,13 +119,13 @@ impl Pending {
         self.end += PACKET as u16;
     }
 
-    /// Makes room for so many bytes: where there is too little, moves what is left to the front.
+    /// Makes room for `count` bytes: where there is too little, moves what is left to the front.
     fn make_room(&mut self, count: usize)
-        requires { length self.old.bytes + count ≤ ROOM }
+        requires { length self.old.bytes + count ≤ MOST_PENDING }
         ensures bytes { self.new.bytes ≡ self.old.bytes }
         ensures room { count ≤ self.new.room }
     {
-        if count > ROOM - usize::from(self.end) {
+        if count > MOST_PENDING - usize::from(self.end) {
             self.bytes
                 .copy_within(usize::from(self.begin)..usize::from(self.end), 0);
             self.end -= self.begin;

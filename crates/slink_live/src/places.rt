@@ -2,13 +2,14 @@
 ghost use Rattle.std.specs.Prelude.{◌≡◌, ◌≢◌, ◌↔◌, ◌/◌, ◌^◌, ◌<◌, ◌≤◌, ℕ, IfNone, IfSome};
 ghost use Rattle.std.specs.Int.{bit_at};
 ghost use Rattle.std.specs.Bool.{OnFalse};
+ghost use Rattle.slink_wire.specs.declared.limits.TheConstants.{STATIONS};
 ghost use Rattle.slink_live.specs.History.{IsEarlier};
 ghost use Rattle.slink_live.specs.private.Granting.{Has};
 
-/// Some of the stations of a feed, which has sixteen at most.
+/// Some of the stations of a feed, which has `STATIONS` at most.
 #[derive(Clone, Copy, Debug, PartialEq, Eq)]
 pub(crate) struct Places {
-    // Bit k is of the station at index k.
+    // Bit k is of the station at index k, which is below 16.
     bits: u16,
 }
 
@@ -43,7 +44,7 @@ impl Places {
 
     /// Returns these stations, and with them the one at an index.
     pub(crate) fn with(self, k: usize) -> Places
-        requires { k < 16 }
+        requires { k < STATIONS }
         ensures here { Has result k }
         ensures others { (j : ℕ) → j ≢ k → Has result j ↔ Has self j }
     {
@@ -54,9 +55,9 @@ impl Places {
 
     /// Returns these stations without the one at an index.
     pub(crate) fn without(self, k: usize) -> Places
-        requires { k < 16 }
+        requires { k < STATIONS }
         ensures less { (j : ℕ) → Has result j → Has self j × (j ≢ k) }
-        ensures others { (j : ℕ) → j < 16 → j ≢ k → Has self j → Has result j }
+        ensures others { (j : ℕ) → j < STATIONS → j ≢ k → Has self j → Has result j }
     {
         Places {
             bits: self.bits & !(1 << k),

@@ -51,7 +51,7 @@ pub trait Ready {
         ensures log { log self.new ≡ log self.old ++ Next result ∷ [] }
         ensures failed { result ≡ Event.Nothing → has_failed self.new ≡ true };
 
-    /// Reads once from the input into `buf`, and returns the number of bytes; 0 where there are none now.
+    /// Returns the number of bytes that one read of the input put into `buf`; 0 where there are none now.
     fn read_input(&mut self, buf: &mut [u8]) -> usize
         ensures bound { result ≤ length buf.new }
         ensures log { log self.new ≡ log self.old ++ Input (take result buf.new) ∷ [] };
@@ -60,17 +60,17 @@ pub trait Ready {
     fn leave_input(&mut self)
         ensures log { log self.new ≡ log self.old ++ Left ∷ [] };
 
-    /// Puts a link that dials into a slot, and returns whether there was one.
+    /// Returns whether a link that dials was put into a slot; it wasn't where nobody dials any more.
     fn accept(&mut self, slot: usize) -> bool
         ensures log { log self.new ≡ log self.old ++ (if result then Opened slot else Missed slot) ∷ [] };
 
-    /// Reads once from the link in a slot into `buf`, and returns the number of bytes; 0 where there are none now.
+    /// Returns the number of bytes that one read of the link in a slot put into `buf`; 0 where there are none now.
     fn read(&mut self, slot: usize, buf: &mut [u8]) -> usize
         ensures bound { result ≤ length buf.new }
         ensures log { log self.new ≡ log self.old ++ Received slot (take result buf.new) ∷ [] };
 
-    /// Hands bytes to the link in a slot once, which accepts a prefix of them, and returns the number of bytes that it
-    /// accepted; 0 where it accepts none now.
+    /// Returns the number of bytes that the link in a slot accepted of these, which are handed to it once, and of which
+    /// it accepts a prefix; 0 where it accepts none now.
     fn write(&mut self, slot: usize, bytes: &[u8]) -> usize
         ensures bound { result ≤ length bytes.now }
         ensures log { log self.new

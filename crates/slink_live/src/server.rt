@@ -16,7 +16,7 @@ ghost use Rattle.slink_live.specs.Turns.{Removes, WritesTo};
 ghost use Rattle.slink_live.specs.private.Keeping.{AnswersFault, EndsInput, KeepsServing, Updates, KeepsAwake};
 ghost use Rattle.slink_live.specs.private.Keeping.{AreAwakeBut, Awakens};
 
-use crate::intake::Intake;
+use crate::intake::{INPUT, Intake};
 use crate::link::{Link, Update};
 use crate::links::Links;
 use crate::places::Places;
@@ -25,11 +25,7 @@ use slink_feed::{Feed, InputFault};
 use std::alloc::{AllocError, Global};
 use std::marker::Model;
 
-/// The most bytes of the input that are read at once: eight records, since a link takes up to twelve packets in
-/// between, and so keeps up with an input that is always ready.
-const INPUT: usize = 4_096;
-
-/// So often the input is read at most, and so many events are carried out in one call.
+/// The most reads of the input, and the most events that are carried out, in one call.
 const TURNS: u64 = 1 << 40;
 
 /// The rings of a feed, filled as their input comes, and links in slots, each with a session of its own.
@@ -53,11 +49,11 @@ impl Model for Server {
 }
 
 impl Server {
-    /// Returns a server of these rings, with so many slots for links. The next number of each ring is at most 2^62.
+    /// Returns a server of these rings, with `clients` slots for links. The next number of each ring is at most 2^62.
     ///
     /// # Errors
     ///
-    /// Where there is no memory for the slots.
+    /// `AllocError` where there is no memory for the slots.
     pub fn new(alloc: Global, feed: Feed, clients: usize) -> Result<Self, AllocError>
         requires { AllByRecursion (λ w. w.next ≤ 2 ^ 62) feed }
         ensures serving { IfOk result (λ s. IsServing feed s []) }
@@ -98,8 +94,10 @@ impl Server {
     ///
     /// # Errors
     ///
-    /// What is wrong with the input, at once: `Turns` after 2^40 reads, and where 2^40 events came in one call. It
-    /// isn't read further: the next call serves the links on, from the records that came before.
+    /// What is wrong with the input, at once: `Stream` where it failed, or ended within a record, or brought bytes that
+    /// begin no record, and with the fault `Turns` after 2^40 reads, and where 2^40 events came in one call; `Foreign`
+    /// where a record hasn't 512 bytes, or is of none of the stations. It isn't read further: the next call serves the
+    /// links on, from the records that came before.
     pub fn serve<R: Ready>(&mut self, ready: &mut R) -> Result<(), InputFault>
         requires sound { IsSound self.old }
         ensures sound { IsSound self.new }

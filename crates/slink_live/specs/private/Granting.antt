@@ -1,6 +1,7 @@
 -- Which stations concern a link.
 use Rattle.std.specs.Prelude.{◌≡◌, ◌<◌, ℕ, List, Option, Some, None, get_or, length, set, slice_get}
 use Rattle.std.specs.Int.{bit_at}
+use Rattle.slink_wire.specs.declared.limits.TheConstants.{STATIONS}
 use Rattle.slink_feed.specs.declared.grant.Grant.{Grant}
 use Rattle.slink_feed.specs.declared.session.Phase.TheVariants.{Streaming}
 use Rattle.slink_feed.specs.Session.{IsAtNext, State, grant_at}
@@ -52,6 +53,6 @@ StaysBeside places all old new = (k : ℕ) → ¬ (Has all k) → ¬ (Has places
 -- ring.
 pub record AreDue (feed : List Window) (s : State) (due : Places) (n : ℕ) : Type 0 where
   pub streams : s.phase ≡ Streaming
-  pub within : (k : ℕ) → Has due k → (k < n) × (k < 16)
+  pub within : (k : ℕ) → Has due k → (k < n) × (k < STATIONS)
   pub ready : (k : ℕ) → Has due k → ¬ (IsAtNext feed s.grants k)
   pub rest : (k : ℕ) → k < n → ¬ (Has due k) → IsAtNext feed s.grants k

@@ -10,39 +10,31 @@ use Rattle.slink_live.specs.Served.{GoesOn, IsServing, IsSound, ServerState, Sta
 use Rattle.slink_live.specs.declared.places.Places.{Places}
 use Rattle.slink_live.specs.private.Granting.{LeavesOut}
 
--- A step that concerns links alone, from what had happened to what has.
-pub record KeepsServing (old new : ServerState) (before after : List Happening) : Type 0 where
-  -- It can serve on.
-  pub sound : IsSound new
+-- A step, from what had happened to what has.
+pub record Carries (old new : ServerState) (before after : List Happening) : Type 0 where
   -- From whatever rings on it had served by what had happened, it has by what has.
   pub serving : (start : List Window) → IsServing start old before → IsServing start new after
-  -- Links alone changed, or left.
-  pub stays : new ≡ record old { links = new.links }
-  -- There are as many slots.
-  pub slots : length new.links ≡ length old.links
-  -- What had happened stays.
-  pub grows : GoesOn before after
-  -- Nothing of the input came.
-  pub quiet : input_of after ≡ input_of before
-
--- A step that may concern the input, and answers what is wrong with it, where something is.
-pub record AnswersFault (old new : ServerState) (before after : List Happening) (result : Result (Unit {0}) InputFault)
-    : Type 0 where
-  -- It can serve on.
-  pub sound : IsSound new
-  -- From whatever rings on it had served by what had happened, it has by what has.
-  pub serving : (start : List Window) → IsServing start old before → IsServing start new after
-  -- What is answered is wrong with what the input gave.
-  pub fault : IfErr result (λ e. (start : List Window) → IsServing start old before
-      → IsInputFault (places_of start) (input_of after) e)
-  -- Then it is read no more.
-  pub ended : OnErr result (new.has_ended ≡ true)
   -- Of an input that is read no more nothing further comes.
   pub unread : StaysUnread old new before after
   -- There are as many slots.
   pub slots : length new.links ≡ length old.links
   -- What had happened stays.
   pub grows : GoesOn before after
+
+-- A step after which it can serve on.
+pub record KeepsServing (old new : ServerState) (before after : List Happening) : Type 0 where
+  pub sound : IsSound new
+  pub carries : Carries old new before after
+
+-- A step that may concern the input, and answers what is wrong with it, where something is.
+pub record AnswersFault (old new : ServerState) (before after : List Happening) (result : Result (Unit {0}) InputFault)
+    : Type 0 where
+  pub keeps : KeepsServing old new before after
+  -- What is answered is wrong with what the input gave.
+  pub fault : IfErr result (λ e. (start : List Window) → IsServing start old before
+      → IsInputFault (places_of start) (input_of after) e)
+  -- Then it is read no more.
+  pub ended : OnErr result (new.has_ended ≡ true)
 
 -- A step that updates the link in a slot.
 pub record Updates (j : ℕ) (old new : ServerState) (before after : List Happening) : Type 0 where

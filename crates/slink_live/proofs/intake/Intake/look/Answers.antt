@@ -1,7 +1,7 @@
-use Rattle.std.proofs.Common.{◌≡◌, ◌∙◌, ap, refl, arith, length, take_all}
+use Rattle.std.proofs.Common.{◌≡◌, ◌∙◌, ap, refl, arith, length, length-take, take_all}
 use Rattle.slink_live.specs.Served.{IntakeState}
 use Rattle.slink_live.specs.private.Cutting.{waits}
-use Rattle.slink_live.proofs.Cuts.{refused_long, refused_not, refused_other}
+use Rattle.slink_live.proofs.Cuts.{refused_long, refused_not, refused_record}
 use Rattle.slink_live.proofs.intake.Intake.look.Goals as goal
 
 pub push_kept-requires : goal.push_kept-requires
@@ -39,5 +39,6 @@ pub returns-else-size-eq-RECORD-clause-err : goal.returns-else-size-eq-RECORD-cl
 returns-else-size-eq-RECORD-clause-err c =
     let there = (c.scan.ensures.«record» c.in-Record.size).0 c.in-Record.is in
     rw (c.foreign-else-size-eq-RECORD.ensures, ← c.self.view_is, ← c.as_slice.ensures.value)
-    (refused_other _ _ _ c.in-Record.size there.0 c.if-size-eq-RECORD.false
-    (rw c.in-Record.is at c.scan.ensures.decides) there.1)
+    (refused_record _ _ _ c.in-Record.size there.0 (rw c.in-Record.is at c.scan.ensures.decides) there.1
+    (λ of. c.if-size-eq-RECORD.false
+    (omega (arith, there.0, of.size, length-take c.in-Record.size c.as_slice.result.now))))

@@ -18,4 +18,5 @@ returns-in_err-k-clause-err c =
     let p = err_from_is_err_and c.from_residual.result c.from_residual.ensures.1 in
     rw (p.1, p.2, c.in_err-k.ensures.fault, ← c.self.view_is, ← c.as_slice.ensures.value) (refused_none _ _ _
     (rw (← c.self.view_is, ← c.as_slice.ensures.value) at c.requires.whole)
+    (rw (← c.self.view_is, ← c.as_slice.ensures.value) at c.requires.«record»)
     (rw (← c.self.view_is, ← c.as_slice.ensures.value) at c.requires.decides) c.in_err-k.ensures.foreign)

@@ -21,14 +21,10 @@ returns-then-ask_at-2-clause-yes c =
 
 pub returns-then-ask_at-clause-ends : goal.returns-then-ask_at-clause-ends
 returns-then-ask_at-clause-ends c streams none =
-    gives_end c.args.feed.now c.loop-k.k c.args.self.now c.ask_at.new.self
-    (rw c.loop-k.invariant.same at c.if-ask_at.ensures.yes) streams
-    (omega (arith, c.loop-k-test.true, c.len-k-end.ensures.value))
+    gives_end _ c.loop-k.k _ _ (rw c.loop-k.invariant.same at c.if-ask_at.ensures.yes)
     (none c.loop-k.k (omega (arith, c.loop-k-test.true, c.len-k-end.ensures.value)))
 
 pub returns-then-ask_at-2-clause-ends : goal.returns-then-ask_at-2-clause-ends
 returns-then-ask_at-2-clause-ends c streams none =
-    gives_end c.args.feed.now c.loop-k-2.k c.args.self.now c.ask_at-in-loop-k-2.new.self
-    (rw c.loop-k-2.invariant.same at c.if-ask_at-2.ensures.yes) streams
-    (omega (arith, c.loop-k-2-test.true, c.min-k-end.ensures, c.len.ensures.value))
+    gives_end _ c.loop-k-2.k _ _ (rw c.loop-k-2.invariant.same at c.if-ask_at-2.ensures.yes)
     (none c.loop-k-2.k (omega (arith, c.loop-k-2-test.true, c.min-k-end.ensures, c.len.ensures.value)))

@@ -1,7 +1,6 @@
 use Rattle.std.proofs.Common.{refl}
-use Rattle.slink_feed.proofs.Waits.{sends_here}
 use Rattle.slink_live.specs.private.Calling.{Gives}
-use Rattle.slink_live.proofs.Due.{due_after, on_true}
+use Rattle.slink_live.proofs.Due.{due_after, gives_due}
 use Rattle.slink_live.proofs.link.Link.ask_due.Goals as goal
 
 pub ask_at-requires : goal.ask_at-requires
@@ -17,15 +16,11 @@ without-requires c = (c.requires.due.within c.args.k c.requires.turn).1
 
 pub returns-then-is_due-clause-gives : goal.returns-then-is_due-clause-gives
 returns-then-is_due-clause-gives c =
-    on_true c.ask_at.result c.ask_at.ensures.yes c.ask_at.ensures.no
-    (sends_here c.args.feed.now c.args.self.now.session.state c.args.k c.requires.due.streams
-    (c.requires.due.within c.args.k c.requires.turn).0 (c.requires.due.ready c.args.k c.requires.turn))
+    gives_due _ _ c.args.k _ _ _ c.requires.due c.requires.turn c.ask_at.ensures.yes c.ask_at.ensures.no
 
 pub returns-else-is_due-clause-gives : goal.returns-else-is_due-clause-gives
 returns-else-is_due-clause-gives c =
-    on_true c.ask_at.result c.ask_at.ensures.yes c.ask_at.ensures.no
-    (sends_here c.args.feed.now c.args.self.now.session.state c.args.k c.requires.due.streams
-    (c.requires.due.within c.args.k c.requires.turn).0 (c.requires.due.ready c.args.k c.requires.turn))
+    gives_due _ _ c.args.k _ _ _ c.requires.due c.requires.turn c.ask_at.ensures.yes c.ask_at.ensures.no
 
 pub returns-then-is_due-clause-due : goal.returns-then-is_due-clause-due
 returns-then-is_due-clause-due c =

@@ -1,8 +1,7 @@
-use Rattle.std.proofs.Common.{◌≡◌, ◌∙◌, arith, inl, inr, sym}
-use Rattle.slink_feed.specs.declared.session.Phase.TheVariants.{Closed, Streaming}
+use Rattle.std.proofs.Common.{ap, length, length-append, arith, inl, inr}
 use Rattle.slink_feed.proofs.Waits.{quiet_or_closed}
 use Rattle.slink_live.specs.History.{none_called}
-use Rattle.slink_live.proofs.Due.{due_turn, grown_by}
+use Rattle.slink_live.proofs.Due.{due_turn}
 use Rattle.slink_live.proofs.Histories.{asks_then}
 use Rattle.slink_live.proofs.Turning.{gives_asks}
 use Rattle.slink_live.proofs.link.Link.fill.Goals as goal
@@ -18,7 +17,7 @@ pub loop-ask-init : goal.loop-ask-init
 loop-ask-init c = record {
   asks = none_called;
   fits = c.requires.fits;
-  grown = inr (omega arith);
+  grown = omega arith;
   due = c.due-due.ensures;
 }
 
@@ -55,13 +54,9 @@ loop-ask-preserved c = record {
       (due_turn _ _ c.loop-ask.due c.loop-ask.self.ring c.in-Some.k c.loop-ask.invariant.due c.in-Some.ensures.some
       c.in-Some.ensures.first));
   fits = c.ask_due-due.ensures.fits;
-  grown = elim (grown_by _ _ _ _ c.ask_due-due.ensures.gives) [
-    | inl shut ↦ inl shut
-    | inr more ↦ elim c.loop-ask.invariant.grown [
-      | inl shut ↦ absurd (
-          let bad : Closed ≡ Streaming = sym shut ∙ c.loop-ask.invariant.due.streams in cc bad)
-      | inr before ↦ inr (omega (arith, before, more))
-    ]
+  grown = let gives = c.ask_due-due.ensures.gives in elim gives.grows [
+    | inl shut ↦ absurd (c.if-is_closed.ensures.no shut)
+    | inr more ↦ omega (arith, c.loop-ask.invariant.grown, more, simp length-append at (ap length gives.pending))
   ];
   due = elim c.ask_due-due.ensures.due [
     | inl shut ↦ absurd (c.if-is_closed.ensures.no shut)

@@ -1,5 +1,4 @@
-use Rattle.std.proofs.Common.{◌≡◌, ◌*◌, ◌≤◌, ◌⊎◌, length}
-use Rattle.slink_feed.specs.declared.session.Phase.TheVariants.{Closed}
+use Rattle.std.proofs.Common.{◌*◌, ◌≤◌, length}
 use Rattle.slink_feed.specs.Session.{Fits}
 use Rattle.slink_live.specs.History.{Asks}
 use Rattle.slink_live.specs.private.Granting.{AreDue}
@@ -9,6 +8,6 @@ abbrev pub invariant-loop-ask : goal.invariant-loop-ask
 invariant-loop-ask l = record {
   asks : Asks l.feed l.fn.self.session l.fn.self.ring l.fn.self.pending l.self.session l.self.ring l.self.pending;
   fits : Fits l.feed l.self.session.state;
-  grown : (l.self.session.state.phase ≡ Closed) ⊎ (520 * l.ask ≤ length l.self.pending);
+  grown : 520 * l.ask ≤ length l.self.pending;
   due : AreDue l.feed l.self.session.state l.due (length l.feed);
 }

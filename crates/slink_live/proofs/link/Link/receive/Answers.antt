@@ -1,13 +1,14 @@
 use Rattle.std.proofs.Common.{arith, rules, refl}
 use Rattle.std.proofs.Common.{length-append}
-use Rattle.slink_live.proofs.Receiving.{from_length, leads_first, leads_last, leads_on}
+use Rattle.slink_live.proofs.Receiving.{leads_last, leads_on}
 use Rattle.slink_live.proofs.link.Link.receive.Goals as goal
+use Rattle.slink_feed.proofs.Deliveries.{piece_length}
 use Rattle.slink_feed.proofs.Sendoffs.{reply_short}
 
 pub loop-start-init : goal.loop-start-init
 loop-start-init c = record {
   within = omega arith;
-  leads = leads_first c.args.feed.now c.args.self.now.session c.args.bytes.now c.args.self.now.pending;
+  leads = λ last all serves. serves;
   ring = refl;
   fits = c.requires.fits;
   room = omega (arith, c.requires.room);
@@ -24,13 +25,13 @@ queue-requires c =
 
 pub loop-start-smaller : goal.loop-start-smaller
 loop-start-smaller c =
-    let long = from_length c.loop-start.start c.args.bytes.now in
+    let long = piece_length c.args.bytes.now c.loop-start.start in
     let some = c.take-used.ensures.some (omega (arith, long, c.loop-start-test.true)) in
     omega (arith, some, long, c.take-used.ensures.bound, c.loop-start-test.true)
 
 pub loop-start-preserved : goal.loop-start-preserved
 loop-start-preserved c =
-    let long = from_length c.loop-start.start c.args.bytes.now in
+    let long = piece_length c.args.bytes.now c.loop-start.start in
     let some = c.take-used.ensures.some (omega (arith, long, c.loop-start-test.true)) in
     let room = rw (← c.self.view_is) at c.loop-start.invariant.room in
     let short = rw (← c.bytes.ensures) at (reply_short c.take-used.result.1) in

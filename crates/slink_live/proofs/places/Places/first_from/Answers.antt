@@ -10,25 +10,19 @@ if_some (Some k) P Q f h = f k h
 
 pub overflow_add-result : goal.overflow_add-result
 overflow_add-result c =
-    omega (
-      arith,
-      few_after c.bits_from-rest.result c.args.from c.in-Some.k c.bits_from-rest.ensures.none c.in-Some.ensures.some.0,
-      c.in-Some.ensures.few,
-    )
+    let few = few_after c.bits_from-rest.result c.args.from c.in-Some.k c.bits_from-rest.ensures.none
+    c.in-Some.ensures.some.0 in omega (arith, few, c.in-Some.ensures.few)
 
-pub returns-in-Some-clause-some : goal.returns-in-Some-clause-some
-returns-in-Some-clause-some c =
+pub returns-in-Some : goal.returns-in-Some
+returns-in-Some c =
     let rest : c.bits_from-rest.result ≡ c.args.self.bits / 2 ^ c.args.from =
     c.bits_from-rest.ensures.value ∙ ap (λ n. n / 2 ^ c.args.from) c.from-bits.ensures in
-    has_after c.args.self.bits c.args.from c.in-Some.k
-    (subst (λ n. bit_at n c.in-Some.k ≡ 1) rest c.in-Some.ensures.some.0)
-
-pub returns-in-Some-clause-first : goal.returns-in-Some-clause-first
-returns-in-Some-clause-first c =
-    let rest : c.bits_from-rest.result ≡ c.args.self.bits / 2 ^ c.args.from =
-    c.bits_from-rest.ensures.value ∙ ap (λ n. n / 2 ^ c.args.from) c.from-bits.ensures in
-    first_beyond c.args.self.bits c.args.from c.in-Some.k
-    (subst (λ n. (i : ℕ) → i < c.in-Some.k → bit_at n i ≡ 0) rest c.in-Some.ensures.some.1)
+    let lowest = rw rest at c.in-Some.ensures.some in
+    record {
+      some = has_after c.args.self.bits c.args.from c.in-Some.k lowest.0;
+      first = first_beyond c.args.self.bits c.args.from c.in-Some.k lowest.1;
+      none = tt;
+    }
 
 pub returns-in-None-clause-first : goal.returns-in-None-clause-first
 returns-in-None-clause-first c =

@@ -1,4 +1,4 @@
-use Rattle.std.proofs.Common.{◌≡◌, ◌∙◌, ℕ, ap, ap₂, arith, bit_and, inl, inr, min, nat_eq, not, sym, true, false}
+use Rattle.std.proofs.Common.{◌≡◌, ◌∙◌, ℕ, ap, arith, bit_and, inl, inr, nat_eq, not, sym, true, false}
 use Rattle.std.specs.Int.{bit_at}
 use Rattle.std.proofs.lemmas.Bool.{OnFalse_from}
 use Rattle.std.proofs.lemmas.Bool.Decides.{eqb_tells}
@@ -8,9 +8,7 @@ use Rattle.slink_live.proofs.places.Places.meets.Goals as goal
 -- numbers that share no bit
 apart : (a b k : ℕ) → bit_and a b ≡ 0 → bit_at a k ≡ 1 → ¬ (bit_at b k ≡ 1)
 apart a b k none x y =
-    let least : min 1 1 ≡ 0 =
-    ap₂ (λ (p q : ℕ). min p q) (sym x) (sym y) ∙ (sym (bit_at_and a b k) ∙ (ap (λ n. bit_at n k) none ∙ bit_at-zero k))
-    in omega (arith, least)
+    omega (arith, x, y, bit_at_and a b k, ap (λ n. bit_at n k) none, bit_at-zero k)
 
 is_zero : (n : ℕ) → not (nat_eq n 0) ≡ false → n ≡ 0
 is_zero n e = elim (eqb_tells n 0) [

@@ -1,13 +1,10 @@
-use Rattle.std.proofs.Common.{◌≡◌, ◌∙◌, ◌*◌, ◌%◌, ◌^◌, ◌<◌, ℕ, arith, bit_and, min, subst, sym, w16}
+use Rattle.std.proofs.Common.{◌≡◌, ◌∙◌, ◌*◌, ◌%◌, ◌^◌, ℕ, arith, bit_and, subst, sym, w16}
 use Rattle.std.specs.Int.{bit_at, bit_not}
 use Rattle.std.proofs.lemmas.Nat.Bits.{bit_at-lt, bit_at_and, bit_at_clear_other, bit_at_clear_same}
 use Rattle.slink_live.proofs.places.Places.without.Goals as goal
 
-least_one : (a b : ℕ) → min a b ≡ 1 → a < 2 → a ≡ 1
-least_one a b e lt = omega (arith, e, lt)
-
 both_bits : (a b j : ℕ) → bit_at (bit_and a b) j ≡ 1 → bit_at a j ≡ 1
-both_bits a b j has = least_one (bit_at a j) (bit_at b j) (sym (bit_at_and a b j) ∙ has) (bit_at-lt a j)
+both_bits a b j has = omega (arith, has, bit_at_and a b j, bit_at-lt a j)
 
 pub returns-clause-less : goal.returns-clause-less
 returns-clause-less c j has = (

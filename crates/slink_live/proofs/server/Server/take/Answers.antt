@@ -17,40 +17,30 @@ update-requires g c =
       within = omega (arith, free.within, length-set c.self.inside.links c.args.slot (Some c.new.result));
     })
 
-pub returns-then-accept-clause-keeps : goal.returns-then-accept-clause-keeps
-returns-then-accept-clause-keeps g c =
+pub returns-then-accept : goal.returns-then-accept
+returns-then-accept g c =
+    let sound = rw (← c.self.view_is) at c.requires.sound in
     let free = rw (← c.self.view_is) at c.requires.free in
     let new = c.new.ensures in
-    let opened = turns_keep _ c.args.slot (Some c.new.result) (rw (← c.self.view_is) at c.requires.sound) free.within
-    (opened_turns _ c.args.slot _ c.new.result (g.R.Ready.log c.args.ready.now) free.free new.session new.pending
-    new.ring (new.fits _)) in
-    rw (← c.self.view_is) (keeps_both (keeps_both opened
-    (keeps_one (WantsLinks c.wants_links.result) refl (λ k. refl) opened.sound))
-    (rw (c.wants_links-then-accept.ensures.log, c.if-accept.ensures.log, c.put.ensures) at c.update.ensures.keeps))
+    let turns = opened_turns c.self.inside.intake.feed c.args.slot _ c.new.result (g.R.Ready.log c.args.ready.now)
+    free.free new.session new.pending new.ring (new.fits _) in
+    let opened = turns_keep _ c.args.slot (Some c.new.result) sound free.within turns in
+    rw (← c.self.view_is) (record {
+      keeps = keeps_both opened.carries
+          (keeps_both (keeps_one (WantsLinks c.wants_links.result) refl (λ k. refl) opened.sound).carries
+          (rw (c.wants_links-then-accept.ensures.log, c.if-accept.ensures.log, c.put.ensures)
+          at c.update.ensures.keeps));
+      called = takes c.args.slot (rw (← c.self.view_is) at c.requires.reads) free
+          (closes_both (closes_one (WantsLinks c.wants_links.result) tt)
+          (rw (c.wants_links-then-accept.ensures.log, c.if-accept.ensures.log) at c.update.ensures.closes));
+      keeps_awake = opens_awake _ c.args.slot (Some c.new.result) sound free.within turns
+          (rw (c.wants_links-then-accept.ensures.log, c.if-accept.ensures.log, c.wants_links.ensures, c.put.ensures)
+          at c.update.ensures.updates);
+    })
 
-pub returns-then-accept-clause-called : goal.returns-then-accept-clause-called
-returns-then-accept-clause-called g c =
-    takes c.args.slot c.requires.reads c.requires.free (closes_both (closes_one (WantsLinks c.wants_links.result) tt)
-    (rw (c.wants_links-then-accept.ensures.log, c.if-accept.ensures.log) at c.update.ensures.closes))
-
-pub returns-then-accept-clause-keeps_awake : goal.returns-then-accept-clause-keeps_awake
-returns-then-accept-clause-keeps_awake g c =
-    let free = rw (← c.self.view_is) at c.requires.free in
-    let new = c.new.ensures in
-    rw (← c.self.view_is) (opens_awake _ c.args.slot (Some c.new.result)
-    (rw (← c.self.view_is) at c.requires.sound) free.within (opened_turns _ c.args.slot _ c.new.result _ free.free
-    new.session new.pending new.ring (new.fits _))
-    (rw (c.wants_links-then-accept.ensures.log, c.if-accept.ensures.log, c.wants_links.ensures, c.put.ensures)
-    at c.update.ensures.updates))
-
-pub returns-else-accept-clause-keeps : goal.returns-else-accept-clause-keeps
-returns-else-accept-clause-keeps g c =
-    rw c.if-accept.ensures.log (keeps_one (Missed c.args.slot) refl (λ k. refl) c.requires.sound)
-
-pub returns-else-accept-clause-called : goal.returns-else-accept-clause-called
-returns-else-accept-clause-called g c =
-    misses c.args.slot c.requires.reads c.requires.free (rw c.if-accept.ensures.log closes_none)
-
-pub returns-else-accept-clause-keeps_awake : goal.returns-else-accept-clause-keeps_awake
-returns-else-accept-clause-keeps_awake g c = rw c.if-accept.ensures.log
-    (said_awake _ _ (Missed c.args.slot) (λ k w. refl) (λ b. refl) (λ w. w) (λ start. tt))
+pub returns-else-accept : goal.returns-else-accept
+returns-else-accept g c = rw c.if-accept.ensures.log (record {
+  keeps = keeps_one (Missed c.args.slot) refl (λ k. refl) c.requires.sound;
+  called = misses c.args.slot c.requires.reads c.requires.free closes_none;
+  keeps_awake = said_awake _ _ (Missed c.args.slot) (λ k w. refl) (λ b. refl) (λ w. w) (λ start. tt);
+})

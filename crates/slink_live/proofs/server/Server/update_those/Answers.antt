@@ -9,27 +9,22 @@ pub loop-slot-init : goal.loop-slot-init
 loop-slot-init g c = updated_none c.requires
 
 pub update-requires : goal.update-requires
-update-requires g c = record {
-  sound = c.loop-slot.invariant.keeps.sound;
-  within = omega (
-    arith,
-    c.loop-slot-test.true,
-    c.len-slot-end.ensures,
-    c.loop-slot.invariant.keeps.slots,
-    ap (λ (s : ServerState). length s.links) c.self.view_is,
-  );
-}
+update-requires g c =
+    let keeps = c.loop-slot.invariant.keeps in
+    let count = ap (λ (s : ServerState). length s.links) c.self.view_is in
+    record {
+      sound = keeps.sound;
+      within = omega (arith, c.loop-slot-test.true, c.len-slot-end.ensures, keeps.carries.slots, count);
+    }
 
 pub returns-clause-keeps_awake : goal.returns-clause-keeps_awake
-returns-clause-keeps_awake g c = record {
-  awake = λ but. updated_awake c.loop-slot.invariant (omega (
-    arith,
-    c.loop-slot-test.false,
-    c.len-slot-end.ensures,
-    ap (λ (s : ServerState). length s.links) c.self.view_is,
-  )) but.is_reported but.each;
-  closed = λ start v but. c.loop-slot.invariant.closed start v but.is_reported;
-}
+returns-clause-keeps_awake g c =
+    let count = ap (λ (s : ServerState). length s.links) c.self.view_is in
+    record {
+      awake = λ but. updated_awake c.loop-slot.invariant
+          (omega (arith, c.loop-slot-test.false, c.len-slot-end.ensures, count)) but.is_reported but.each;
+      closed = λ start v but. c.loop-slot.invariant.closed start v but.is_reported;
+    }
 
 pub loop-slot-preserved : goal.loop-slot-preserved
 loop-slot-preserved g c = elim c.if-waits_for.branch [
