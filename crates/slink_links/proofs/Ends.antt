@@ -1,12 +1,12 @@
 -- What is reported at the end of a fetch.
-use Rattle.std.proofs.Common.{◌≡◌, ◌∙◌, refl, ap, subst, sym, Bool, true, false, ℕ, List, [], ◌∷◌, Option}
+use Rattle.std.proofs.Common.{◌≡◌, refl, subst, Bool, true, false, ℕ, List, [], ◌∷◌, Option}
 use Rattle.mseed_stream.specs.Device.{BytesWritten}
 use Rattle.mseed_stream.specs.LineWritten.{WritesLine}
 use Rattle.slink_feed.specs.Delivered.{Numbered}
 use Rattle.slink_feed.specs.Dialogue.{Wants}
 use Rattle.slink_feed.specs.Listening.{Listening}
 use Rattle.slink_feed.specs.Reports.{outputs}
-use Rattle.slink_feed.specs.Reporter.{AreReported, Reporting, lines_of, next_line_of, none, one, reporting_after}
+use Rattle.slink_feed.specs.Reporter.{AreReported, Reporting, next_line_of, none, one}
 use Rattle.slink_feed.specs.Reporter.{reporting_of, wants_left}
 use Rattle.slink_feed.specs.Reported.{HasReported}
 use Rattle.slink_feed.proofs.Quiet.{nothing_reported}
@@ -22,13 +22,8 @@ pub next_reported : (called failed unwritten : Bool) (last : Option (ℕ × ℕ)
     → called ≡ true → failed ≡ unwritten → WritesLine (next_line_of (wants_left failed last wants)) a b
     → AreReported (next_lines called (wants_left unwritten last wants)) a b
 next_reported called failed unwritten last wants a b set same tells =
-    subst (λ (t : Bool). AreReported (next_lines t (wants_left unwritten last wants)) a b) (sym set)
-    (subst (λ (f : Bool). AreReported (next_lines true (wants_left f last wants)) a b) same
+    rw set (subst (λ (f : Bool). AreReported (next_lines true (wants_left f last wants)) a b) same
     (one (next_line_of (wants_left failed last wants)) [] a b b tells (none b)))
-
-pub next_unreported : (called : Bool) (wants : Wants) (a : BytesWritten) → called ≡ false
-    → AreReported (next_lines called wants) a a
-next_unreported called wants a unset = subst (λ (t : Bool). AreReported (next_lines t wants) a a) (sym unset) (none a)
 
 -- nothing but the lines of the end is reported
 none_reported : (lines : List (List ℕ)) (a b : BytesWritten) → lines ≡ [] → AreReported lines a b → b ≡ a
@@ -39,27 +34,20 @@ end_reported : (end : FetchEnd) (known : Outcome) (old new : Wants) (records : L
     → HasReported false old new records → ReportsOfAll false end known records old new a d
     → ReportsOfFetch known end a d
 end_reported end known old new records a d reported all =
-    let first = none_reported (lines_of (reporting_of old false) records) a all.reported
-    (nothing_reported old new records reported) all.lines in
-    let last : d ≡ all.ended = none_reported [] all.ended d refl all.next in
-    rw (← last) at (subst (λ (x : BytesWritten). ReportsOfFetch known end x all.ended) first all.end_lines)
+    let first = none_reported _ a all.reported (nothing_reported old new records reported) all.lines in
+    rw (← none_reported [] all.ended d refl all.next) at (rw first at all.end_lines)
 
 pub end_alone : (end : FetchEnd) (server : Server) (trouble : Option Trouble) (firsts : Bool) (status : ℕ)
     (old new : Listening) (o p a d : BytesWritten)
     → FetchesAll end server trouble firsts status old new o p a d
     → IsQuiet server firsts old.talk.holes new.talk status a d
-end_alone end server trouble firsts status old new o p a d f uncalled plain =
-    let records : List Numbered = f.fetched.records in
-    let before : Wants = old.talk.wants in
-    let after : Wants = new.talk.wants in (
-      end,
-      trouble,
-      f.status_is,
-      end_reported end (outcome server trouble new.talk) before after records a d
-          (subst (λ (h : Bool). HasReported h before after records) plain f.fetched.reported)
-          (subst (λ (t : Bool). ReportsOfAll t end (outcome server trouble new.talk) records before after a d) uncalled
-          f.reports),
-    )
+end_alone end server trouble firsts status old new o p a d f uncalled plain = (
+  end,
+  trouble,
+  f.status_is,
+  end_reported end _ old.talk.wants new.talk.wants f.fetched.records a d (rw plain at f.fetched.reported)
+      (rw uncalled at f.reports),
+)
 
 -- all that is reported
 pub all_fetched : (firsts : Bool) (end : FetchEnd) (server : Server) (trouble : Option Trouble) (status : ℕ)
@@ -70,17 +58,14 @@ pub all_fetched : (firsts : Bool) (end : FetchEnd) (server : Server) (trouble : 
     → AreReported (next_lines firsts (wants_left (is_unwritten end) u.last new.talk.wants)) c d
     → FetchesAll end server trouble firsts status old new o p a d
 all_fetched firsts end server trouble status old new t u o p a b c d f begun is ended next =
-    let records : List Numbered = f.fetched.records in
-    let first : Reporting = reporting_of old.talk.wants firsts in
-    let beyond : u ≡ reporting_after first records =
-    f.handed_over.reporting ∙ ap (λ (x : Reporting). reporting_after x records) begun in record {
+    record {
       fetched = f.fetched;
       status_is = is;
       reports = record {
         reported = b;
         ended = c;
-        lines = subst (λ (x : Reporting). AreReported (lines_of x records) a b) begun f.handed_over.lines;
+        lines = rw begun at f.handed_over.lines;
         end_lines = ended;
-        next = rw beyond at next;
+        next = rw (f.handed_over.reporting, begun) at next;
       };
     }

@@ -1,5 +1,5 @@
 -- Turns with a link, one after another, and links one after another.
-use Rattle.std.proofs.Common.{Bool, ◌≡◌, ◌⊎◌, ℕ, ◌+◌, ◌<◌, ◌≤◌, inl, inr, refl, sym, ap, subst, ◌∙◌, arith, List, []}
+use Rattle.std.proofs.Common.{Bool, ◌≡◌, ℕ, ◌+◌, ◌<◌, ◌≤◌, inl, inr, refl, sym, ap, subst, ◌∙◌, arith, List, []}
 use Rattle.std.proofs.Common.{◌∷◌, ◌++◌, append_assoc, append-nil, length, length-append, take, Option, Some, None}
 use Rattle.std.proofs.Common.{Result, Ok, Err}
 use Rattle.mseed_stream.specs.Device.{BytesRead, IsPrefixOf, BytesWritten, nothing_read, nothing_written}
@@ -17,23 +17,23 @@ use Rattle.slink_feed.specs.Delivered.{Numbered}
 use Rattle.slink_feed.specs.Dialogue.{Talk, Wants, requests_place, to_place, want_at}
 use Rattle.slink_feed.specs.Fetching.{Delivers, FailsToWriteLine, FailsToWrite, Fetches, IsFetchFault}
 use Rattle.slink_feed.specs.Fetching.{ReadsOn, TakesTurn, bytes_reported, fetching, line_written, lines_written}
-use Rattle.slink_feed.specs.Fetching.{record_reported, turn_after, turn_of}
+use Rattle.slink_feed.specs.Fetching.{joined_by, record_reported, turn_after, turn_of}
 use Rattle.slink_feed.specs.Listening.{IsLinked, Listening, Reads}
 use Rattle.slink_feed.specs.Reported.{HasReported, bytes_in, record_in, records_reported}
 use Rattle.slink_feed.specs.Turns.{Emitted, EmittedPrefix}
-use Rattle.slink_feed.specs.Reports.{Outputs, TakesRecords, Reports, all, but_last}
+use Rattle.slink_feed.specs.Reports.{Outputs, Reports, TakesRecords, all, but_last}
 use Rattle.slink_feed.proofs.Deliveries.{on_both, on_none}
 use Rattle.slink_feed.proofs.Numbers.{kept_place}
 use Rattle.slink_feed.proofs.OneReading as one
 use Rattle.slink_feed.proofs.Reporting.{all_taken, line_alone, record_alone, record_bytes, handed_over_both}
 use Rattle.slink_feed.proofs.Reporting.{handed_over_none, takes_both, takes_none}
-use Rattle.slink_feed.proofs.ReportedOver.{bytes_both, records_both, kept_link, reported_both, reported_far}
-use Rattle.slink_feed.proofs.ReportedOver.{reported_link, reported_none, wants_written}
+use Rattle.slink_feed.proofs.ReportedOver.{bytes_both, records_both, reported_both, reported_far}
+use Rattle.slink_feed.proofs.ReportedOver.{reported_none, wants_written}
 use Rattle.slink_links.specs.declared.fetching.FetchEnd.{FetchEnd}
 use Rattle.slink_links.specs.declared.fetching.FetchEnd.TheVariants.{Done, Refused, BadFeed, WriteFailed, LinkFailed}
-use Rattle.slink_links.specs.Fetched.{AreTaken, HasFetched, HasReadEach, HasReadLink, HasReadLinks, HasTurned}
+use Rattle.slink_links.specs.Fetched.{AreTaken, HasFetched, HasReadLink, HasReadLinks, HasTurned}
 use Rattle.slink_links.specs.Fetched.{WasFetchedOver}
-use Rattle.slink_links.specs.Fetched.{HaveMoved, IsFetchedOver, IsReading, IsUnended, Reaches, ReachesBy}
+use Rattle.slink_links.specs.Fetched.{HaveMoved, IsBad, IsFetchedOver, IsReading, IsUnended, Reaches, ReachesBy}
 use Rattle.slink_links.specs.Fetched.{FetchesReporting, end_by, failures_by, over_none, over_one_more, over_the_last}
 
 -- What a sink accepted, stated of an equal list.
@@ -49,14 +49,21 @@ emitted_prefix_as a b xs ys n bytes within failed same =
 -- the bytes of the records that events report
 reported_bytes : (es : List Event) → bytes_reported es ≡ bytes_in (records_reported es)
 reported_bytes [] = refl
-reported_bytes (e ∷ es) = ap (λ bytes. bytes ++ bytes_reported es) (record_bytes e)
-    ∙ (ap (λ bytes. bytes_in (record_in e) ++ bytes) (reported_bytes es)
-    ∙ sym (bytes_both (record_in e) (records_reported es)))
+reported_bytes (e ∷ es) = rw (record_bytes e, reported_bytes es, bytes_both (record_in e) (records_reported es))
 
-lines_both : (es : List Event) (e : Event) → lines_written (es ++ e ∷ []) ≡ lines_written es ++ line_written e
-lines_both [] e = append-nil (line_written e)
-lines_both (x ∷ es) e = ap (λ bytes. line_written x ++ bytes) (lines_both es e)
-    ∙ sym (append_assoc (line_written x) (lines_written es) (line_written e))
+joined_last : (given : Event → List ℕ) (es : List Event) (e : Event)
+    → joined_by given (es ++ e ∷ []) ≡ joined_by given es ++ given e
+joined_last given [] e = append-nil (given e)
+joined_last given (x ∷ es) e = rw (joined_last given es e, append_assoc (given x) (joined_by given es) (given e))
+
+-- the last event gives something, where a device failed within what it gives
+some_last : (given : Event → List ℕ) (es : List Event) (e : Event) (n : ℕ)
+    → n < length (joined_by given (es ++ e ∷ [])) → length (joined_by given es) ≤ n → 0 < length (given e)
+some_last given es e n part beyond = omega (
+  arith,
+  ap length (joined_last given es e),
+  length-append (joined_by given es) (given e),
+)
 
 records_last : (es : List Event) (e : Event) → records_reported (es ++ e ∷ []) ≡ records_reported es ++ record_in e
 records_last es e = records_both es (e ∷ []) ∙ ap (λ rs. records_reported es ++ rs) (append-nil (record_in e))
@@ -65,27 +72,16 @@ records_last es e = records_both es (e ∷ []) ∙ ap (λ rs. records_reported e
 unwritten_none : (es : List Event) (e : Event) (n : ℕ) → n < length (lines_written (es ++ e ∷ []))
     → length (lines_written es) ≤ n → records_reported (es ++ e ∷ []) ≡ records_reported es
 unwritten_none es e n part beyond =
-    let long : 0 < length (line_written e) =
-    omega (arith, part, beyond, ap length (lines_both es e), length-append (lines_written es) (line_written e)) in
-    records_last es e ∙ (ap (λ rs. records_reported es ++ rs) (line_alone e long) ∙ append-nil (records_reported es))
+    records_last es e ∙ rw (line_alone e (some_last line_written es e n part beyond), append-nil (records_reported es))
 
 -- a record that wasn't taken whole
 left_unwritten : (es : List Event) (e : Event) (n : ℕ) (old new : BytesWritten)
     → EmittedPrefix old new (bytes_reported (es ++ e ∷ [])) n
     → length (bytes_reported es) ≤ n → TakesRecords (records_reported (es ++ e ∷ [])) old new
 left_unwritten es e n old new emitted beyond =
-    let whole : bytes_reported (es ++ e ∷ []) ≡ bytes_in (records_reported es) ++ bytes_in (record_in e) =
-    reported_bytes (es ++ e ∷ []) ∙ (ap bytes_in (records_last es e)
-    ∙ bytes_both (records_reported es) (record_in e)) in
-    let sum : length (bytes_reported (es ++ e ∷ [])) ≡ length (bytes_in (records_reported es)) + length
-    (bytes_in (record_in e)) =
-    ap length whole ∙ length-append (bytes_in (records_reported es)) (bytes_in (record_in e)) in
-    let long : 0 < length (record_reported e) =
-    omega (arith, emitted.part, beyond, sum, ap length (reported_bytes es), ap length (record_bytes e)) in
-    let last : (r : Numbered) × (record_in e ≡ r ∷ []) = record_alone e long in
+    let last = record_alone e (some_last record_reported es e n emitted.part beyond) in
     but_last (records_reported es) last.0 n (records_last es e ∙ ap (λ rs. records_reported es ++ rs) last.1)
-    (omega (arith, beyond, ap length (reported_bytes es)))
-    (subst (λ bytes. EmittedPrefix old new bytes n) (reported_bytes (es ++ e ∷ [])) emitted)
+    (omega (arith, beyond, ap length (reported_bytes es))) (rw (reported_bytes (es ++ e ∷ [])) at emitted)
 
 -- By no bytes nothing changes.
 same_by_none : (old new : Listening) (reported : List Event) → IsReading old → ReadsOn old [] reported new → new ≡ old
@@ -96,51 +92,47 @@ same_by_none old new reported reading on =
 
 no_prefix : (xs ys : List ℕ) → IsPrefixOf xs ys → ys ≡ [] → xs ≡ []
 no_prefix [] ys prefix none = refl
-no_prefix (x ∷ xs) ys prefix none = absurd (let bad : [] ≡ x ∷ (xs ++ prefix.0) = sym none ∙ prefix.1 in cc bad)
-
-reading_on : (old new : Listening) (bytes : List ℕ) (reported : List Event) → IsReading old
-    → ReadsOn old bytes reported new
-    → IsReading new
-reading_on old new bytes reported reading on =
-    (reading.0, reading.1 ++ bytes, reading.2 ++ reported, on reading.0 reading.1 reading.2 reading.3)
+no_prefix (x ∷ xs) ys prefix none = cc
 
 linked_unended : (stage : Stage) → IsLinked stage → IsUnended stage
 linked_unended (Ended ending) linked = absurd linked
 linked_unended stage linked = tt
 
--- By a step that no device failed in, the client goes on, has reached an end, or is to have another link.
-reached_stopped : (ending : Ending) (old new : Listening) → new.talk.stage ≡ Ended ending
-    → ReachesBy (end_by (Ok (turn_of ending))) old new
-reached_stopped endings.End old new at = at
-reached_stopped (endings.Refused k) old new at = (k, at)
-reached_stopped (endings.Gap k want got) old new at = (endings.Gap k want got, at, tt)
-reached_stopped (endings.Unanswered k) old new at = (endings.Unanswered k, at, tt)
-reached_stopped endings.Garbage old new at = (endings.Garbage, at, tt)
-reached_stopped (endings.Foreign station network) old new at = (endings.Foreign station network, at, tt)
-
-reached_turn : (bytes : List ℕ) (stage : Stage) (old new : Listening) → new.talk.stage ≡ stage → ¬ (stage ≡ Unlinked)
-    → (bytes ≡ [] → IsUnended new.talk.stage) → ReachesBy (end_by (Ok (turn_after bytes stage))) old new
-reached_turn [] stage old new at some unended = inl (unended refl)
-reached_turn (b ∷ bs) Unlinked old new at some unended = absurd (some refl)
-reached_turn (b ∷ bs) (Ended ending) old new at some unended = reached_stopped ending old new at
-reached_turn (b ∷ bs) stage old new at some unended = subst IsLinked (sym at) tt
-
--- What a link gave is taken whole while there is no end.
 some_end : (end : FetchEnd) → Some end ≡ None → ⊥
 some_end end e = cc
 
-never_goes : (ending : Ending) → end_by (Ok (turn_of ending)) ≡ None → ⊥
-never_goes endings.End e = some_end Done e
-never_goes (endings.Refused k) e = some_end Refused e
-never_goes ending e = some_end BadFeed e
+-- By a step that no device failed in, the client goes on, has reached an end, or is to have another link. While there
+-- is no end its link goes on.
+record Turned (end : Option FetchEnd) (stage : Stage) (old new : Listening) : Type 0 where
+  reached : ReachesBy end old new
+  goes : end ≡ None → IsLinked stage
+  fine : failures_by end ≡ 0
 
-goes_linked : (bytes : List ℕ) (stage : Stage) → ¬ (stage ≡ Unlinked) → end_by (Ok (turn_after bytes stage)) ≡ None
-    → IsLinked stage
-goes_linked [] stage some e = absurd (some_end LinkFailed e)
-goes_linked (b ∷ bs) Unlinked some e = absurd (some refl)
-goes_linked (b ∷ bs) (Ended ending) some e = absurd (never_goes ending e)
-goes_linked (b ∷ bs) stage some e = tt
+bad_feed : (ending : Ending) (stage : Stage) (old new : Listening) → new.talk.stage ≡ Ended ending → IsBad ending
+    → Turned (Some BadFeed) stage old new
+bad_feed ending stage old new at bad =
+    record { reached = (ending, at, bad); goes = λ e. absurd (some_end BadFeed e); fine = refl }
 
+stopped : (ending : Ending) (stage : Stage) (old new : Listening) → new.talk.stage ≡ Ended ending
+    → Turned (end_by (Ok (turn_of ending))) stage old new
+stopped endings.End stage old new at = record { reached = at; goes = λ e. absurd (some_end Done e); fine = refl }
+stopped (endings.Refused k) stage old new at =
+    record { reached = (k, at); goes = λ e. absurd (some_end Refused e); fine = refl }
+stopped (endings.Gap k want got) stage old new at = bad_feed (endings.Gap k want got) stage old new at tt
+stopped (endings.Unanswered k) stage old new at = bad_feed (endings.Unanswered k) stage old new at tt
+stopped endings.Garbage stage old new at = bad_feed endings.Garbage stage old new at tt
+stopped (endings.Foreign sta net) stage old new at = bad_feed (endings.Foreign sta net) stage old new at tt
+
+turn_ends : (bytes : List ℕ) (stage : Stage) (old new : Listening) → new.talk.stage ≡ stage → ¬ (stage ≡ Unlinked)
+    → (bytes ≡ [] → IsUnended new.talk.stage) → Turned (end_by (Ok (turn_after bytes stage))) stage old new
+turn_ends [] stage old new at some unended =
+    record { reached = inl (unended refl); goes = λ e. absurd (some_end LinkFailed e); fine = refl }
+turn_ends (b ∷ bs) Unlinked old new at some unended = absurd (some refl)
+turn_ends (b ∷ bs) (Ended ending) old new at some unended = stopped ending (Ended ending) old new at
+turn_ends (b ∷ bs) stage old new at some unended =
+    record { reached = subst IsLinked (sym at) tt; goes = λ e. tt; fine = refl }
+
+-- What a link gave is taken whole while there is no end.
 prefix_taken : (end : Option FetchEnd) (before after : BytesRead) (bytes taken : List ℕ)
     → after.bytes ≡ before.bytes ++ bytes → IsPrefixOf taken bytes → (end ≡ None → taken ≡ bytes)
     → AreTaken end taken before after
@@ -157,51 +149,34 @@ none_taken end before after same = prefix_taken end before after [] [] (same ∙
 taken_both : (end : Option FetchEnd) (a b c : BytesRead) (xs ys : List ℕ) → AreTaken None xs a b → AreTaken end ys b c
     → AreTaken end (xs ++ ys) a c
 taken_both end a b c xs ys p q =
-    let joined : (zs : List ℕ) → (b.bytes ++ ys) ++ zs ≡ (a.bytes ++ (xs ++ ys)) ++ zs =
-    λ zs. ap (λ ws. ws ++ zs) (ap (λ ws. ws ++ ys) (p.whole refl) ∙ append_assoc a.bytes xs ys) in record {
-      prefix = (q.prefix.0, q.prefix.1 ∙ joined q.prefix.0);
-      whole = λ goes. q.whole goes ∙ (ap (λ ws. ws ++ ys) (p.whole refl) ∙ append_assoc a.bytes xs ys);
-    }
-
-fine_stopped : (ending : Ending) → failures_by (end_by (Ok (turn_of ending))) ≡ 0
-fine_stopped endings.End = refl
-fine_stopped ending = refl
-
-fine_turn : (bytes : List ℕ) (stage : Stage) → failures_by (end_by (Ok (turn_after bytes stage))) ≡ 0
-fine_turn [] stage = refl
-fine_turn (b ∷ bs) (Ended ending) = fine_stopped ending
-fine_turn (b ∷ bs) stage = refl
+    let joined : b.bytes ++ ys ≡ a.bytes ++ (xs ++ ys) = rw (p.whole refl) (append_assoc a.bytes xs ys) in
+    record { prefix = (q.prefix.0, rw joined at q.prefix.1); whole = λ goes. q.whole goes ∙ joined }
 
 unended_none : (old new : Listening) (bytes taken : List ℕ) (reported : List Event) → IsReading old
     → IsUnended old.talk.stage → ReadsOn old taken reported new → IsPrefixOf taken bytes → bytes ≡ []
     → IsUnended new.talk.stage
 unended_none old new bytes taken reported reading unended on prefix none =
-    let nothing : taken ≡ [] = no_prefix taken bytes prefix none in
-    rw (← (same_by_none old new reported reading (subst (λ xs. ReadsOn old xs reported new) nothing on))) at unended
+    rw (← same_by_none old new reported reading (rw (no_prefix taken bytes prefix none) at on)) at unended
 
 turned_ok : (turn : Turn) (old new : Listening) (s0 s1 w0 w1 : BytesWritten) (h0 h1 : BytesRead)
     → Fetches (fetching old s0 w0) (fetching new s1 w1) h0 h1 turn → IsReading old → IsLinked old.talk.stage
     → HasTurned (end_by (Ok turn)) old new h0 h1 w0 w1
 turned_ok turn old new s0 s1 w0 w1 h0 h1 f reading linked =
     let d : Delivers (fetching old s0 w0) (fetching new s1 w1) f.bytes = f.delivers in
-    let emitted : Emitted w0 w1 (bytes_in (records_reported d.reported)) =
-    subst (Emitted w0 w1) (reported_bytes d.reported) d.output in
-    let some : ¬ (new.talk.stage ≡ Unlinked) = d.linked linked in
-    let by : end_by (Ok turn) ≡ end_by (Ok (turn_after f.bytes new.talk.stage)) = ap (λ t. end_by (Ok t)) f.turn_is in
-    record {
+    let emitted : Emitted w0 w1 (bytes_in (records_reported d.reported)) = rw (reported_bytes d.reported) at d.output in
+    let ends = turn_ends f.bytes new.talk.stage old new refl (d.linked linked)
+    (unended_none old new f.bytes d.takes.taken d.reported reading (linked_unended old.talk.stage linked)
+    d.takes.reads d.takes.prefix) in
+    rw f.turn_is (record {
       bytes = d.takes.taken;
-      taken = prefix_taken (end_by (Ok turn)) h0 h1 f.bytes d.takes.taken (ap (λ (h : BytesRead). h.bytes) f.read)
-          d.takes.prefix (λ goes. d.whole (goes_linked f.bytes new.talk.stage some (sym by ∙ goes)));
+      taken = prefix_taken (end_by (Ok (turn_after f.bytes new.talk.stage))) h0 h1 f.bytes d.takes.taken
+          (ap (λ (h : BytesRead). h.bytes) f.read) d.takes.prefix (λ goes. d.whole (ends.goes goes));
       reported = d.reported;
       reads = d.takes.reads;
       emitted = all emitted;
-      reached = subst (λ end. ReachesBy end old new) (sym by)
-          (reached_turn f.bytes new.talk.stage old new refl some
-          (unended_none old new f.bytes d.takes.taken d.reported reading (linked_unended old.talk.stage linked)
-          d.takes.reads d.takes.prefix));
-      failures = emitted.failures ∙ let none : failures_by (end_by (Ok turn)) ≡ 0 =
-          ap failures_by by ∙ fine_turn f.bytes new.talk.stage in omega (arith, none);
-    }
+      reached = ends.reached;
+      failures = emitted.failures ∙ omega (arith, ends.fine);
+    })
 
 turned_err : (fault : LinkFault) (old new : Listening) (s0 s1 w0 w1 : BytesWritten) (h0 h1 : BytesRead)
     → IsFetchFault fault (fetching old s0 w0) (fetching new s1 w1) h0 h1 → IsReading old → IsLinked old.talk.stage
@@ -219,8 +194,8 @@ turned_err faults.Read old new s0 s1 w0 w1 h0 h1 f reading linked =
     }
 turned_err (faults.Write n) old new s0 s1 w0 w1 h0 h1 f reading linked =
     let x : FailsToWriteLine (fetching old s0 w0) (fetching new s1 w1) f.bytes n = f.fails in
-    let emitted : Emitted w0 w1 (bytes_in (records_reported x.reported)) =
-    subst (Emitted w0 w1) (reported_bytes x.reported) x.other in record {
+    let emitted : Emitted w0 w1 (bytes_in (records_reported x.reported)) = rw (reported_bytes x.reported) at x.other in
+    record {
       bytes = x.takes.taken;
       taken = prefix_taken (Some LinkFailed) h0 h1 f.bytes x.takes.taken (ap (λ (h : BytesRead). h.bytes) f.read)
           x.takes.prefix (λ goes. absurd (some_end LinkFailed goes));
@@ -264,13 +239,14 @@ turned_none now read written linked = record {
   failures = omega arith;
 }
 
+reached_after : (end : FetchEnd) (a b c : Listening) → Reaches LinkFailed a b → Reaches end b c → Reaches end a c
+reached_after LinkFailed a b c before (inl there) = inl there
+reached_after LinkFailed a b c before (inr same) = rw same before
+reached_after end a b c before reached = reached
+
 reached_on : (end : Option FetchEnd) (a b c : Listening) → IsLinked b.talk.stage → ReachesBy end b c → ReachesBy end a c
-reached_on (Some LinkFailed) a b c linked reached =
-    elim reached [
-      | inl now ↦ inl now
-      | inr same ↦ inl (rw (← same) at (linked_unended b.talk.stage linked))
-    ]
-reached_on end a b c linked reached = reached
+reached_on None a b c linked reached = reached
+reached_on (Some end) a b c linked reached = reached_after end a b c (inl (linked_unended b.talk.stage linked)) reached
 
 -- one step after another
 pub turned_both : (end : Option FetchEnd) (a b c : Listening) (h i j : BytesRead) (s t u : BytesWritten)
@@ -281,7 +257,7 @@ turned_both end a b c h i j s t u p q =
       taken = taken_both end h i j p.bytes q.bytes p.taken q.taken;
       reported = p.reported ++ q.reported;
       reads = on_both a b c p.bytes q.bytes p.reported q.reported p.reads q.reads;
-      emitted = subst (λ rs. TakesRecords rs s u) (sym (records_both p.reported q.reported))
+      emitted = rw (records_both p.reported q.reported)
           (takes_both s t u (records_reported p.reported) (records_reported q.reported) emitted q.emitted);
       reached = reached_on end a b c p.reached q.reached;
       failures = omega (arith, p.failures, q.failures);
@@ -302,66 +278,52 @@ turned_out a b h i s t p = record {
 
 pub turned_reading : (end : Option FetchEnd) (a b : Listening) (h i : BytesRead) (s t : BytesWritten) → IsReading a
     → HasTurned end a b h i s t → IsReading b
-turned_reading end a b h i s t reading p = reading_on a b p.bytes p.reported reading p.reads
+turned_reading end a b h i s t reading p =
+    (reading.0, reading.1 ++ p.bytes, reading.2 ++ p.reported, p.reads reading.0 reading.1 reading.2 reading.3)
 
 -- A new link changes nothing of what is wanted.
 written_linked : (t : Talk) (o : Option Wanted) → IsLinked (to_place o 0 t).0.stage
 written_linked t None = tt
 written_linked t (Some w) = tt
 
-pub connected_linked : (old : Talk) (new : Talk) (event : Event) → requests_place 0 old ≡ (new, event)
-    → IsLinked new.stage
-connected_linked old new event says = rw (ap (λ p. p.0) says) at (written_linked old (want_at old.wants 0))
+pub record Connected (old new : Talk) : Type 0 where
+  pub linked : IsLinked new.stage
+  pub wants : new.wants ≡ old.wants
+  pub holes : new.holes ≡ old.holes
 
-connected_unended : (old : Talk) (new : Talk) (event : Event) → requests_place 0 old ≡ (new, event)
-    → IsUnended new.stage
-connected_unended old new event says = linked_unended new.stage (connected_linked old new event says)
+connected_first : (old : Talk) → Connected old (requests_place 0 old).0
+connected_first old = record {
+  linked = written_linked old (want_at old.wants 0);
+  wants = wants_written old (want_at old.wants 0);
+  holes = kept_place 0 old (want_at old.wants 0);
+}
 
-pub connected_wants : (old : Talk) (new : Talk) (event : Event) → requests_place 0 old ≡ (new, event)
-    → new.wants ≡ old.wants
-connected_wants old new event says = ap (λ p. p.0.wants) (sym says) ∙ wants_written old (want_at old.wants 0)
-
-connected_holes : (old : Talk) (new : Talk) (event : Event) → requests_place 0 old ≡ (new, event)
-    → new.holes ≡ old.holes
-connected_holes old new event says = ap (λ p. p.0.holes) (sym says) ∙ kept_place 0 old (want_at old.wants 0)
-
-connected_reported : (old : Talk) (new : Talk) (event : Event) (wants : Wants) (records : List Numbered)
-    → requests_place 0 old ≡ (new, event) → HasReported new.holes new.wants wants records
-    → HasReported old.holes old.wants wants records
-connected_reported old new event wants records says reported =
-    subst (λ (h : Bool). HasReported h old.wants wants records) (connected_holes old new event says)
-    (subst (λ ws. HasReported new.holes ws wants records) (connected_wants old new event says) reported)
+pub connected : (old new : Talk) (event : Event) → requests_place 0 old ≡ (new, event) → Connected old new
+connected old new event says = rw (ap (λ p. p.0) says) at (connected_first old)
 
 moved_by : (holes : Bool) (old new : Wants) (records : List Numbered) → HasReported holes old new records
     → HaveMoved holes old new records
 moved_by holes old new records reported plain k n short at =
-    reported_far old new records k n (subst (λ (h : Bool). HasReported h old new records) plain reported) short at
+    reported_far old new records k n (rw plain at reported) short at
 
-reached_linked : (end : FetchEnd) (old now new : Listening) → IsUnended now.talk.stage → Reaches end now new
-    → Reaches end old new
-reached_linked LinkFailed old now new unended reached =
-    elim reached [
-      | inl there ↦ inl there
-      | inr same ↦ inl (subst (λ (x : Listening). IsUnended x.talk.stage) (sym same) unended)
-    ]
-reached_linked end old now new unended reached = reached
-
--- a link, from its first byte on
-pub fetched_link : (end : FetchEnd) (old now new : Listening) (event : Event) (h i : BytesRead) (s t : BytesWritten)
-    → requests_place 0 old.talk ≡ (now.talk, event) → Reads now.talk [] [] now → HasTurned (Some end) now new h i s t
-    → HasFetched end old new s t
-fetched_link end old now new event h i s t says reads p =
-    let all : Reads now.talk p.bytes p.reported new = p.reads now.talk [] [] reads in
-    let same : now.talk.holes ≡ old.talk.holes = connected_holes old.talk now.talk event says in
-    let reported = connected_reported old.talk now.talk event new.talk.wants (records_reported p.reported) says
-    (reported_link now.talk p.bytes p.reported new all) in record {
-      records = records_reported p.reported;
-      reported = reported;
-      moved = moved_by old.talk.holes old.talk.wants new.talk.wants (records_reported p.reported) reported;
-      holes = kept_link now.talk p.bytes p.reported new all ∙ same;
-      emitted = p.emitted;
-      reached = reached_linked end old now new (connected_unended old.talk now.talk event says) p.reached;
-      failures = p.failures;
+-- a link, from its first byte on: its records are those that were reported
+pub fetched_reporting : (end : FetchEnd) (old now new : Listening) (event : Event) (h i : BytesRead) (a b : Outputs)
+    → requests_place 0 old.talk ≡ (now.talk, event) → HasTurned (Some end) now new h i a.output b.output
+    → Reports now.talk new.talk a b → FetchesReporting end old new a b
+fetched_reporting end old now new event h i a b says p q =
+    let c = connected old.talk now.talk event says in
+    let reported : HasReported old.talk.holes old.talk.wants new.talk.wants q.records =
+    rw (c.holes, c.wants) at q.reported in record {
+      fetched = record {
+        records = q.records;
+        reported = reported;
+        moved = moved_by old.talk.holes old.talk.wants new.talk.wants q.records reported;
+        holes = q.holes ∙ c.holes;
+        emitted = q.handed_over.emitted;
+        reached = reached_after end old now new (inl (linked_unended now.talk.stage c.linked)) p.reached;
+        failures = p.failures;
+      };
+      handed_over = q.handed_over;
     }
 
 pub read_link : (end : FetchEnd) (old now new : Listening) (event : Event) (h i : BytesRead) (s t : BytesWritten)
@@ -378,24 +340,6 @@ read_link end old now new event h i s t says reads p = record {
   emitted = p.emitted;
 }
 
--- its records are those that were reported
-pub fetched_reporting : (end : FetchEnd) (old now new : Listening) (event : Event) (a b : Outputs)
-    → requests_place 0 old.talk ≡ (now.talk, event) → HasFetched end old new a.output b.output
-    → Reports now.talk new.talk a b → FetchesReporting end old new a b
-fetched_reporting end old now new event a b says f p =
-    let reported = connected_reported old.talk now.talk event new.talk.wants p.records says p.reported in record {
-      fetched = record {
-        records = p.records;
-        reported = reported;
-        moved = moved_by old.talk.holes old.talk.wants new.talk.wants p.records reported;
-        holes = f.holes;
-        emitted = p.handed_over.emitted;
-        reached = f.reached;
-        failures = f.failures;
-      };
-      handed_over = p.handed_over;
-    }
-
 -- no link yet
 pub fetched_none : (now : Listening) (a : Outputs) → FetchesReporting LinkFailed now now a a
 fetched_none now a = record {
@@ -411,13 +355,6 @@ fetched_none now a = record {
   handed_over = handed_over_none a;
 }
 
-reached_after : (end : FetchEnd) (a b c : Listening) → Reaches LinkFailed a b → Reaches end b c → Reaches end a c
-reached_after LinkFailed a b c before reached = elim reached [
-  | inl there ↦ inl there
-  | inr same ↦ subst (λ (x : Listening). IsUnended x.talk.stage ⊎ (x ≡ a)) (sym same) before
-]
-reached_after end a b c before reached = reached
-
 -- one link after another
 pub fetched_both : (end : FetchEnd) (a b c : Listening) (s t u : Outputs) → FetchesReporting LinkFailed a b s t
     → FetchesReporting end b c t u → FetchesReporting end a c s u
@@ -427,7 +364,7 @@ fetched_both end a b c s t u x y =
     let fine : t.output.failures ≡ s.output.failures = p.failures ∙ omega arith in
     let emitted = all_taken p.records s.output t.output p.emitted fine in
     let reported = reported_both a.talk.holes a.talk.wants b.talk.wants c.talk.wants p.records q.records p.reported
-    (subst (λ (h : Bool). HasReported h b.talk.wants c.talk.wants q.records) p.holes q.reported) in record {
+    (rw (p.holes) at q.reported) in record {
       fetched = record {
         records = p.records ++ q.records;
         reported = reported;
@@ -439,11 +376,6 @@ fetched_both end a b c s t u x y =
       };
       handed_over = handed_over_both p.records q.records s t u x.handed_over fine y.handed_over;
     }
-
--- no link given back yet
-pub reads_none : (now : Listening) (links : List Exchange) (written : BytesWritten)
-    → HasReadEach LinkFailed now now links links written written
-reads_none now links written = record { links = []; given_back = sym (append-nil links); read = over_none now written }
 
 -- some and then others
 pub links_both : (end : FetchEnd) (a b c : Listening) (some others : List Exchange) (s t u : BytesWritten)

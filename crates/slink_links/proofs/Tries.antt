@@ -1,6 +1,7 @@
 -- Tries, one after another, and the pauses between them.
 use Rattle.std.proofs.Common.{◌≡◌, ℕ, ◌+◌, ◌≤◌, inl, inr, refl, sym, ap, ◌∙◌, arith, Bool, true, false, List}
 use Rattle.std.proofs.Common.{[], ◌∷◌, ◌++◌, append_assoc, append-nil, length, length-append}
+use Rattle.std.proofs.lemmas.Bool.{false≢true}
 use Rattle.mseed_stream.specs.Device.{BytesWritten}
 use Rattle.mseed_stream.specs.Exchanges.{Exchange}
 use Rattle.slink_feed.specs.Delivered.{Numbered}
@@ -35,23 +36,17 @@ after_more : (n : ℕ) (tries : List Bool) (received : Bool) → after_after n (
 after_more n [] received = refl
 after_more n (t ∷ ts) received = after_more (pauses_since t n + 1) ts received
 
-since_most : (received : Bool) (n : ℕ) → pauses_since received n ≤ n
-since_most true n = omega arith
-since_most false n = omega arith
-
-after_most : (n : ℕ) (tries : List Bool) → after_after n tries ≤ n + length tries
+pub after_most : (n : ℕ) (tries : List Bool) → after_after n tries ≤ n + length tries
 after_most n [] = omega arith
-after_most n (t ∷ ts) = omega (arith, since_most t n, after_most (pauses_since t n + 1) ts)
+after_most n (true ∷ ts) = omega (arith, after_most 1 ts)
+after_most n (false ∷ ts) = omega (arith, after_most (n + 1) ts)
 
 -- Whether a link brought a record shows in what the output accepted.
-false_true : false ≡ true → ⊥
-false_true e = cc
-
 brought_of : (received : Bool) (rs : List Numbered) (wants : Wants) (a b : BytesWritten) → Emitted a b (bytes_in rs)
     → Notes false received a b → b.failures ≡ a.failures → AreOf wants rs → HasBrought received rs
 brought_of false [] wants a b emitted notes fine of = refl
 brought_of true [] wants a b emitted notes fine of = absurd (elim (notes.yes refl) [
-  | inl was ↦ false_true was
+  | inl was ↦ false≢true was
   | inr grown ↦ omega (arith, grown, ap length emitted.bytes, length-append a.bytes [])
 ])
 brought_of true (r ∷ rs) wants a b emitted notes fine of = refl
@@ -85,15 +80,6 @@ tried_over end received old new link before after a b over fetched notes given =
       (fetched.failures ∙ (ap (λ e. a.failures + output_failures e) is ∙ omega arith)) notes);
 }
 
--- a try without a link
-pub tried_none : (now : Listening) (before after : List Exchange) (written : BytesWritten) → after ≡ before
-    → HasTried LinkFailed false now now before after written written
-tried_none now before after written same = record {
-  links = [];
-  given_back = same ∙ sym (append-nil before);
-  tried = undialled refl refl refl refl;
-}
-
 -- the tries so far, after each of which was paused
 pub record AreTried (old now : Listening) (a b : BytesWritten) (before after : Calls) (count : ℕ) : Type 0 where
   pub tries : List Bool
@@ -116,13 +102,6 @@ nothing_tried now written calls = record {
   counted = refl;
 }
 
-pub few_counted : (old now : Listening) (a b : BytesWritten) (before after : Calls) (count : ℕ)
-    → AreTried old now a b before after count → before.dials + count ≤ after.dials
-few_counted old now a b before after count p = omega (arith, p.counted, p.dials, after_most 0 p.tries)
-
-given_both : (a b c ps qs : List Exchange) → b ≡ a ++ ps → c ≡ b ++ qs → c ≡ a ++ (ps ++ qs)
-given_both a b c ps qs p q = q ∙ (ap (λ xs. xs ++ qs) p ∙ append_assoc a ps qs)
-
 -- The links of a try were fetched over, and so were those of tries that failed.
 links_tried : (end : FetchEnd) (received : Bool) (old new : Listening) (links : List Exchange) (a b : BytesWritten)
     → IsTry end received old new a b links → HasReadLinks end old new links a b
@@ -141,7 +120,7 @@ pub reads_tried : (end : FetchEnd) (received : Bool) (old now new : Listening) (
     → HasTried end received now new mid.given_back after b c → HasReadEach end old new before.given_back after a c
 reads_tried end received old now new a b c before mid after count p q = record {
   links = p.links ++ q.links;
-  given_back = given_both before.given_back mid.given_back after p.links q.links p.given_back q.given_back;
+  given_back = rw (q.given_back, p.given_back, append_assoc);
   read = links_both end old now new p.links q.links a b c (links_failed p.tries old now p.links a b p.failed)
       (links_tried end received now new q.links b c q.tried);
 }
@@ -156,13 +135,9 @@ tried_more received old now new a b c before mid after count next p q dials call
   links = p.links ++ q.links;
   failed = one_more p.tries received old now new p.links q.links a b c p.failed q.tried;
   dials = omega (arith, dials, p.dials, length-append p.tries (received ∷ []));
-  given_back = given_both before.given_back mid.given_back after.given_back p.links q.links p.given_back q.given_back;
-  called = called ∙ (ap (λ xs. xs ++ pause_after (pauses_since received count) ∷ []) p.called
-      ∙ (append_assoc before.called (pauses_from 0 p.tries) (pause_after (pauses_since received count) ∷ [])
-      ∙ ap (λ xs. before.called ++ xs)
-      (ap (λ n. pauses_from 0 p.tries ++ pause_after (pauses_since received n) ∷ []) p.counted
-      ∙ sym (pauses_more 0 p.tries received))));
-  counted = is ∙ (ap (λ n. pauses_since received n + 1) p.counted ∙ sym (after_more 0 p.tries received));
+  given_back = rw (q.given_back, p.given_back, append_assoc);
+  called = rw (called, p.called, p.counted, pauses_more 0 p.tries received) (simp append_assoc);
+  counted = rw (is, p.counted, after_more 0 p.tries received);
 }
 
 pub tried_last : (end : FetchEnd) (received : Bool) (old now new : Listening) (a b c : BytesWritten)
@@ -171,6 +146,4 @@ pub tried_last : (end : FetchEnd) (received : Bool) (old now new : Listening) (a
     → after.called ≡ mid.called → HasPaused end old new a c before after
 tried_last end received old now new a b c before mid after count p q dials called =
     tried p.tries received now b p.links q.links p.failed q.tried
-    (omega (arith, dials, p.dials))
-    (given_both before.given_back mid.given_back after.given_back p.links q.links p.given_back q.given_back)
-    (called ∙ p.called)
+    (omega (arith, dials, p.dials)) (rw (q.given_back, p.given_back, append_assoc)) (called ∙ p.called)

@@ -48,7 +48,7 @@ gap_line want got w = codes "mseed: " ++ label_of w.place ++ codes ": record " +
 abbrev pub unanswered_line : Wanted → List ℕ → List ℕ
 unanswered_line w reply = reply_line (codes ": the reply is neither OK nor ERROR") w reply
 
--- bytes that begin no packet, and aren't the end, after so many packets
+-- bytes that begin no packet, and aren't the end, after `packets` packets
 abbrev pub garbage_line : ℕ → List ℕ
 garbage_line packets = codes "mseed: bytes came that are neither a packet nor the end, after " ++ decimal packets
     ++ (if packets == 1 then codes " packet\n" else codes " packets\n")

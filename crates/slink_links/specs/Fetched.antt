@@ -193,7 +193,7 @@ pub record IsTurnBy (end : Option FetchEnd) (old new : Fetching) (before after :
   pub takes : TakesTurn turn old new before after
   pub ends : end ≡ end_by turn
 
--- So many steps were taken with a link, and the fetch goes on after each.
+-- This number of steps was taken with a link, and the fetch goes on after each.
 pub data HasTakenTurns (first : Fetching) (before : BytesRead) : ℕ → Fetching → BytesRead → Type 0 where
   none : HasTakenTurns first before 0 first before
   more : (n : ℕ) (now new : Fetching) (mid after : BytesRead) → HasTakenTurns first before n now mid
@@ -299,7 +299,7 @@ pub data HasPaused (end : FetchEnd) (old new : Listening) (a b : BytesWritten) (
       → after.given_back ≡ before.given_back ++ (links ++ others)
       → after.called ≡ before.called ++ pauses_from 0 tries → HasPaused end old new a b before after
 
--- The devices of a fetch were called so, up to an end: so many tries were made at most, each link that was had was
+-- The devices of a fetch were called so, up to an end: at most `tries` tries were made, each link that was had was
 -- fetched over and given back, and between the tries was paused.
 pub record HasCalled (end : FetchEnd) (tries : ℕ) (old new : Listening) (written_old written_new : BytesWritten)
     (before after : Calls) : Type 0 where

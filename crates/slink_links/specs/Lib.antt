@@ -1,5 +1,6 @@
 pub mod Out
 pub mod Served
+pub mod Taken
 pub mod Pauses
 pub mod Fetched
 pub mod ListenFault

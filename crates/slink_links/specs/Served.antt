@@ -18,7 +18,7 @@ use Rattle.mseed_stream.specs.LineWritten.{WritesLine}
 abbrev pub has_failed : BytesRead → BytesWritten → Bool
 has_failed read written = nat_lt 0 (read.failures + written.failures)
 
--- So many steps were taken with a link, and the session goes on after each.
+-- This number of steps was taken with a link, and the session goes on after each.
 pub data HasTakenTurns (feed : List Window) (first : Attending) (before : BytesRead) : ℕ → Attending → BytesRead
     → Type 0 where
   none : HasTakenTurns feed first before 0 first before

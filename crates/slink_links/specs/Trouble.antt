@@ -26,7 +26,7 @@ IsLossBy error losses.Closed = ⊥
 IsLossBy error losses.LongHandshake = IsFaultOf error faults.TimedOut
 IsLossBy error (losses.Failed fault) = IsFaultOf error fault
 
--- What is known of so many tries is what went wrong in the last one; and something is known exactly where there was
+-- What is known of `tries` tries is what went wrong in the last one; and something is known exactly where there was
 -- one.
 pub record IsOfLastTry (tries : ℕ) (known last : Option Trouble) : Type 0 where
   pub some : is_some known ≡ nat_lt 0 tries

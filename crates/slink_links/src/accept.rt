@@ -6,6 +6,33 @@ ghost use Rattle.slink_links.specs.Out.{AreOut};
 ghost use Rattle.slink_links.specs.Served.{has_failed};
 
 use crate::handshake::EndsHandshake;
+use mseed_stream::{Exchanges, Tally};
+
+/// All calls for links, one after another, for proofs: it has no bytes.
+#[derive(Drop)]
+pub struct AcceptLog {
+    /// The calls for a link, and how many of them failed.
+    pub calls: Tally,
+    /// The links that were given back, and how many of them had failed.
+    pub lost: Tally,
+    /// What went over the links that were given back, in order.
+    pub given_back: Exchanges,
+}
+
+impl AcceptLog {
+    ghost use Rattle.slink_links.specs.Taken.{nothing_taken, taken_by};
+
+    /// Returns the log of no call.
+    pub(crate) fn new() -> AcceptLog
+        ensures { taken_by result ≡ nothing_taken }
+    {
+        AcceptLog {
+            calls: Tally::new(),
+            lost: Tally::new(),
+            given_back: Exchanges::new(),
+        }
+    }
+}
 
 /// Where links come from, one after another: each is given back before the next one is requested.
 pub trait Accept {
@@ -23,7 +50,8 @@ pub trait Accept {
     // What went over the links that were given back, in order.
     ghost given_back: { Self → List Exchange };
 
-    /// The next link, of which nothing was read and to which nothing was written; or none, where the call failed.
+    /// Returns the next link, of which nothing was read and to which nothing was written, or `None` where the call
+    /// failed.
     fn accept(&mut self) -> Option<Self::Link>
         requires { AreOut 0 (calls self.old) (failures self.old) (given_back self.old) }
         ensures calls { calls self.new ≡ calls self.old + 1 }

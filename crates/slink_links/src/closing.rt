@@ -5,10 +5,10 @@ use std::io::{ErrorKind, Read};
 use std::net::{OpenStream, Shutdown};
 use std::time::{Clock, Duration, Instant};
 
-/// So many bytes that still come are thrown away at most.
+/// The most bytes that still come and are thrown away.
 pub(crate) const MOST: usize = 1 << 16;
 
-/// For so many seconds they are waited for at most, all together.
+/// The most seconds for which they are waited for, all together.
 const PATIENCE: u64 = 2;
 
 /// The bytes that one read has room for.
@@ -56,7 +56,7 @@ pub(crate) fn close<C: Clock, S: Read + OpenStream + Drop>(clock: &C, mut stream
     }
 }
 
-/// Reads what still comes, up to its end, up to so many bytes, and for so long.
+/// Reads what still comes, up to its end, but at most `MOST` bytes, and for `PATIENCE` seconds.
 ///
 /// # Errors
 ///

@@ -25,7 +25,7 @@ pub trait Dial {
     // What went wrong in the last try: why there was no link, or why nothing more came over the last one.
     ghost trouble: { Self → Option Trouble };
 
-    /// A new link, of which nothing was read and to which nothing was written.
+    /// Returns a new link, of which nothing was read and to which nothing was written.
     ///
     /// # Errors
     ///

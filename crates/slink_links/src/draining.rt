@@ -48,7 +48,7 @@ pub(crate) struct Draining {
 }
 
 impl Draining {
-    /// Room for so many streams, whose tokens begin with this one.
+    /// Room for `count` streams, whose tokens begin with `first`.
     ///
     /// # Errors
     ///

@@ -119,7 +119,7 @@ fn gap_line(want: u32, got: u32, wanted: &Wanted) -> Line
     line
 }
 
-/// The line of bytes that begin no packet, and aren't the end, after so many packets.
+/// The line of bytes that begin no packet, and aren't the end, after `packets` packets.
 fn garbage_line(packets: u64) -> Line
     ensures { result ≡ garbage_line packets }
 {

@@ -5,7 +5,8 @@
 //! what went over it stands in a list for proofs, so that a contract can say of each link what was done with it.
 //! Between its tries [`fetch_all`] waits by a [`Pause`]. A link that is silent for too long fails as by any other
 //! cause.
-//! [`serve_planned`] and [`fetch_planned`] carry out a plan over such devices, and [`serve`] and [`fetch`] over TCP.
+//! [`serve_planned`] and [`fetch_planned`] carry out a plan over such devices. Over TCP a [`TcpAcceptor`] is an
+//! [`Accept`], and [`fetch`] carries out a plan.
 //!
 //! A [`LiveTcp`] is standard input and many links over TCP at once, by one wait for all of them.
 #![tactic(auto)]
@@ -36,7 +37,7 @@ mod tcp;
 mod time_limited;
 mod trouble;
 
-pub use accept::Accept;
+pub use accept::{Accept, AcceptLog};
 pub use dial::Dial;
 pub use ending::put_address;
 pub use fetching::{FetchEnd, fetch_all, fetch_link};
@@ -48,6 +49,6 @@ pub use pause::Pause;
 pub use plan::{FetchPlan, FetchTerms, ServePlan, Server};
 pub use planned::{fetch_planned, serve_planned};
 pub use serving::{serve_all, serve_link};
-pub use status::{BAD_COMMAND, BROKEN, DONE, FAULT};
-pub use tcp::{fetch, serve};
+pub use status::{DONE, FAULT};
+pub use tcp::{TcpAcceptor, fetch};
 pub use trouble::{DialFault, Loss, Trouble};

@@ -29,8 +29,8 @@ pub enum ListenFault {
 }
 
 impl ListenFault {
-    /// The reason of an error of the system, by the number that Linux has for it; of an error that isn't the system's,
-    /// by whether memory was refused.
+    /// Returns the reason of an error: of one of the system by the number that Linux has for it, and of another one by
+    /// whether memory was refused.
     pub fn of(error: &Error) -> ListenFault
         ensures number { (number : ℤ) → raw_os_error error.now ≡ Some number → result ≡ fault_of number }
         ensures memory { raw_os_error error.now ≡ None → error_kind error.now ≡ ErrorKind.OutOfMemory
@@ -73,7 +73,7 @@ impl ListenFault {
         }
     }
 
-    /// The reason in words.
+    /// Returns the reason in words, at most 40 bytes.
     pub fn text(self) -> &'static str
         ensures text { result.now ≡ listen_text self }
         ensures most { length result.now ≤ 40 }

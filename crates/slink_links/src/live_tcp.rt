@@ -24,7 +24,7 @@ const LISTENER: usize = 1;
 /// The token of the first slot.
 const FIRST: usize = 2;
 
-/// So many events are taken from the system at once.
+/// The most events that are taken from the system at once.
 const EVENTS: usize = 256;
 
 /// How often the clock is read while connections drain or have a time-out, in milliseconds.
@@ -63,7 +63,7 @@ pub struct LiveTcp<'a, C: Clock, I: Drop> {
     log: Log,
 }
 
-/// So many slots for links.
+/// A list of `count` slots for links.
 fn slots(alloc: Global, count: usize) -> io::Result<Vec<Slot>> {
     let mut slots = Vec::new(alloc);
     for slot in 0..count {
@@ -88,7 +88,7 @@ fn first_round(alloc: Global, count: usize) -> io::Result<Round> {
     Ok(round)
 }
 
-/// Slots for so many links, room for those of them that leave, and a round with room for the tokens of all.
+/// Slots for the links of `clients`, room for those of them that leave, and a round with room for the tokens of all.
 fn slots_for(alloc: Global, clients: usize) -> io::Result<(Vec<Slot>, Draining, Round)> {
     let end = FIRST.saturating_add(clients);
     let slots = slots(alloc, clients)?;

@@ -26,8 +26,8 @@ pub enum NetworkFault {
 }
 
 impl NetworkFault {
-    /// The reason of an error of the system, by the number that Linux has for it; of an error that isn't the system's,
-    /// by its kind.
+    /// Returns the reason of an error: of one of the system by the number that Linux has for it, and of another one by
+    /// its kind.
     pub fn of(error: &Error) -> NetworkFault
         ensures { IsFaultOf error.now result }
     {
@@ -74,7 +74,7 @@ impl NetworkFault {
         }
     }
 
-    /// The reason in words.
+    /// Returns the reason in words, at most 40 bytes.
     pub fn text(self) -> &'static str
         ensures text { result.now ≡ network_text self }
         ensures most { length result.now ≤ 40 }

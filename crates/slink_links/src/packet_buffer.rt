@@ -7,22 +7,22 @@ use std::io;
 use std::io::{Read, Write};
 use std::marker::Model;
 
-/// So many bytes are gathered at most: those of 63 packets.
+/// The most bytes that are gathered: those of 63 packets.
 pub(crate) const ROOM: usize = 63 * PACKET;
 
-/// Room for the packets that are gathered, which is lent to one link after another.
+/// Room for the packets that are gathered, which one link has after another.
 pub(crate) type Room = [u8; ROOM];
 
 /// A stream that gathers packets. They are written before anything shorter is, before the stream is read, and before a
 /// packet for which there is no room, which then goes out at once. An error in writing them is reported at that call.
 #[derive(Drop)]
-pub(crate) struct PacketBuffer<'a, S> {
+pub struct PacketBuffer<S> {
     stream: S,
-    room: &'a mut Room,
+    room: Box<Room>,
     count: usize,
 }
 
-impl<'a, S> Model for PacketBuffer<'a, S> {
+impl<S> Model for PacketBuffer<S> {
     ghost Value = { S };
 
     ghost view = { λ g. g.stream };
@@ -30,9 +30,9 @@ impl<'a, S> Model for PacketBuffer<'a, S> {
     ghost invariant = { λ g. g.count ≤ ROOM };
 }
 
-impl<'a, S> PacketBuffer<'a, S> {
+impl<S> PacketBuffer<S> {
     /// The stream, for which nothing was gathered yet.
-    pub(crate) fn new(stream: S, room: &'a mut Room) -> PacketBuffer<'a, S>
+    pub(crate) fn new(stream: S, room: Box<Room>) -> PacketBuffer<S>
         ensures { result ≡ stream }
     {
         PacketBuffer {
@@ -50,7 +50,7 @@ impl<'a, S> PacketBuffer<'a, S> {
     }
 }
 
-impl<'a, S: Write> PacketBuffer<'a, S> {
+impl<S: Write> PacketBuffer<S> {
     /// Writes what was gathered.
     ///
     /// # Errors
@@ -62,7 +62,7 @@ impl<'a, S: Write> PacketBuffer<'a, S> {
         self.stream.write_all(&self.room[..count])
     }
 
-    /// Writes these bytes after what was gathered, or so many of them as the stream takes at once.
+    /// Writes these bytes after what was gathered, or as many of them as the stream takes at once.
     ///
     /// # Errors
     ///
@@ -75,20 +75,20 @@ impl<'a, S: Write> PacketBuffer<'a, S> {
     }
 
     /// The stream, once what was gathered is written, unless it fails; and the room, for the next link.
-    pub(crate) fn into_parts(mut self) -> (S, &'a mut Room) {
+    pub(crate) fn into_parts(mut self) -> (S, Box<Room>) {
         let _ = self.write_gathered();
         (self.stream, self.room)
     }
 }
 
-impl<S: Read + Write> Read for PacketBuffer<'_, S> {
+impl<S: Read + Write> Read for PacketBuffer<S> {
     fn read(&mut self, buf: &mut [u8]) -> io::Result<usize> {
         self.write_gathered()?;
         self.stream.read(buf)
     }
 }
 
-impl<S: Write> Write for PacketBuffer<'_, S> {
+impl<S: Write> Write for PacketBuffer<S> {
     fn write(&mut self, bytes: &[u8]) -> io::Result<usize> {
         if bytes.len() != PACKET {
             return self.write_further(bytes);

@@ -11,7 +11,7 @@ pub trait Pause {
     // How long it was to wait so far, in tenths of a second, in order.
     ghost called: { Self → List ℕ };
 
-    /// Waits for so many tenths of a second.
+    /// Waits for `tenths` tenths of a second.
     fn pause(&mut self, tenths: u8)
         ensures { called self.new ≡ called self.old ++ tenths ∷ [] };
 }
@@ -48,7 +48,7 @@ const FIRST: [u8; 6] = [1, 2, 4, 8, 16, 32];
 /// The longest pause.
 const LONGEST: u8 = 50;
 
-/// How long a pause is after so many.
+/// How long a pause is after `count` others, in tenths of a second.
 fn pause_after(count: usize) -> u8
     ensures { result ≡ pause_after count }
 {
@@ -58,8 +58,8 @@ fn pause_after(count: usize) -> u8
     }
 }
 
-/// Waits after a try that brought a record or didn't, and after so many pauses. The answer is after how many the
-/// next one comes.
+/// Waits after a try that brought a record or didn't, and after `count` pauses. The answer is after how many the next
+/// one comes.
 pub(crate) fn wait_after<P: Pause>(received: bool, count: usize, waits: &mut P) -> usize
     requires { count + 1 < 2 ^ 64 }
     ensures called { P.called waits.new ≡ P.called waits.old ++ pause_after (pauses_since received count) ∷ [] }

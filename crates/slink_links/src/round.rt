@@ -2,7 +2,7 @@
 
 use std::alloc::{AllocError, Global};
 
-/// So many tokens have their bits in one word.
+/// How many tokens have their bits in one word.
 const WORD: usize = 64;
 
 /// A set of tokens, so that a link that waits costs a round no time.
@@ -12,7 +12,7 @@ pub(crate) struct Round {
 }
 
 impl Round {
-    /// An empty set, with room for so many tokens.
+    /// An empty set, with room for `count` tokens.
     ///
     /// # Errors
     ///

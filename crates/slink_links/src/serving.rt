@@ -10,11 +10,11 @@ use mseed_stream::{Sink, report};
 use slink_feed::{Feed, LinkFault, Session, Turn, serve_turn};
 use std::alloc::Allocator;
 
-/// With one link so many steps are taken at most.
+/// The most steps that are taken with one link.
 pub const TURNS: u64 = 1 << 40;
 
-/// Serves the feed to so many connections, one after another, each by a session of its own. An `accept` that fails
-/// uses up a connection.
+/// Serves the feed to `connections` connections, one after another, each by a session of its own. An `accept` that
+/// fails uses up a connection.
 ///
 /// Returns the exit status: 0 exactly where no `accept` failed, and no link that was given back had failed. Else it
 /// is 2, and `errors` takes a line that says so.
@@ -40,7 +40,7 @@ pub fn serve_all<B: Allocator, A: Accept, E: Sink>(
     FAULT
 }
 
-/// Serves so many connections, and answers whether no `accept` and no link failed.
+/// Serves `connections` connections, and answers whether no `accept` and no link failed.
 fn serve_connections<B: Allocator, A: Accept>(
     feed: &Feed<B>,
     connections: u64,
@@ -85,7 +85,8 @@ fn serve_next<B: Allocator, A: Accept>(feed: &Feed<B>, acceptor: &mut A) -> bool
     }
 }
 
-/// Serves a link by a session of its own, until nothing more is to be sent, or until many steps were taken.
+/// Serves a link by a session of its own, until nothing more is to be sent, or until 2^40 steps
+/// were taken.
 ///
 /// # Errors
 ///

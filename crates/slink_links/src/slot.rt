@@ -2,7 +2,7 @@
 ghost use Rattle.std.specs.Prelude.{◌≤◌, length};
 
 use mio::net::TcpStream;
-use slink_live::Interest;
+use slink_live::{Interest, MOST_PENDING};
 use slink_wire::PACKET;
 use std::io::{ErrorKind, Read, Write};
 use std::time::{Duration, Instant};
@@ -15,7 +15,7 @@ const FIRST_INTEREST: Interest = Interest {
 };
 
 /// After a write of more bytes than these, more is to be written: all that a link has waiting had no room.
-const LONG: usize = 11 * PACKET;
+const LONG: usize = MOST_PENDING - PACKET;
 
 /// A stream, what the server wants of it, and what may be had.
 #[derive(Drop)]

@@ -1,12 +1,12 @@
 //! Links over TCP.
-ghost use Rattle.std.specs.Prelude.{◌≡◌, IfOk, IfSome, OnErr, Option, is_some, nat_lt};
+ghost use Rattle.std.specs.Prelude.{◌≡◌, IfOk, IfSome, Option, is_some, nat_lt};
 ghost use Rattle.mseed_stream.specs.Counted.{read_by, written_by};
 ghost use Rattle.mseed_stream.specs.Device.{nothing_read, nothing_written};
 ghost use Rattle.slink_links.specs.Fetched.{FetchesAll, IsQuiet, server_of};
 ghost use Rattle.slink_links.specs.Out.{AreOut};
-ghost use Rattle.slink_links.specs.Served.{HasServed};
+ghost use Rattle.slink_links.specs.Taken.{nothing_taken, taken, taken_by};
 
-use crate::accept::Accept;
+use crate::accept::{Accept, AcceptLog};
 use crate::closing::close;
 use crate::dial::Dial;
 use crate::fetching::FetchEnd;
@@ -14,17 +14,17 @@ use crate::guards::{listener_off_streams, off_streams};
 use crate::handshake::EndsHandshake;
 use crate::listen_fault::ListenFault;
 use crate::network_fault::NetworkFault;
-use crate::packet_buffer::PacketBuffer;
+use crate::packet_buffer::{PacketBuffer, ROOM, Room};
 use crate::pause::Sleeper;
-use crate::plan::{FetchPlan, ServePlan};
-use crate::planned::{fetch_planned, serve_planned};
+use crate::plan::FetchPlan;
+use crate::planned::fetch_planned;
+use crate::read_ahead;
 use crate::read_ahead::ReadAhead;
 use crate::time_limited::{Limits, TimeLimited};
 use crate::trouble::{DialFault, Loss, Trouble};
-use crate::{packet_buffer, read_ahead};
 use mseed_stream::{Counted, Exchanges, Sink, Tally};
 use slink_wire::{Address, Host, Name, Timeout};
-use std::alloc::Allocator;
+use std::alloc::Global;
 use std::io;
 use std::io::{ErrorKind, Read, Write};
 use std::net::{Ipv4Addr, Net, OpenListener, OpenStream, SocketAddr, TcpListener, TcpStream};
@@ -51,7 +51,7 @@ fn link_over<'a, C: Clock, S: OpenStream + Drop>(
 }
 
 impl<C: Clock, S: Read + Write + OpenStream + Drop> EndsHandshake
-    for Counted<PacketBuffer<'_, TimeLimited<'_, C, S>>> {
+    for Counted<PacketBuffer<TimeLimited<'_, C, S>>> {
     fn end_handshake(&self) {
         self.get_ref().stream().end_handshake();
     }
@@ -103,7 +103,7 @@ fn stream_to<N: Net>(
     off_streams(stream)
 }
 
-/// So many addresses of a name are tried at most.
+/// The most addresses of a name that are tried.
 const ADDRESSES: usize = 32;
 
 /// Why no connection could be made, by the error of a call.
@@ -176,43 +176,58 @@ fn stream_in_time<N: Net + Clock>(
     stream_to(host, socket, Some(left))
 }
 
-/// A port that takes connections, with its calls counted.
+/// A port of this host that takes one connection after another, with its calls counted.
 #[derive(Drop)]
-pub(crate) struct Listening<'a, N: Net + Clock> {
+pub struct TcpAcceptor<'a, N: Net + Clock> {
     host: &'a N,
     listener: N::Listener,
     timeout: Timeout,
-    tally: Tally,
-    lost: Tally,
-    given_back: Exchanges,
+    log: AcceptLog,
     // It is with the link that is out, if one is.
-    room: Option<&'a mut packet_buffer::Room>,
+    room: Option<Box<Room>>,
 }
 
-impl<'a, N: Net + Clock> Listening<'a, N> {
-    /// Takes connections to a port from now on. The room is lent to one link after another.
+impl<'a, N: Net + Clock> TcpAcceptor<'a, N> {
+    /// Takes connections at an address and port of this host from now on, and returns the device, at which no call was
+    /// made yet. A link's handshake may take `timeout` as a whole, and each write to it after that.
     ///
     /// # Errors
     ///
-    /// Where the port can't be had, as one that is taken.
-    pub(crate) fn bind(
+    /// Where the port can't be had, as one that is taken, or at an address that isn't of this host, or where there is
+    /// no memory for the packets that are gathered.
+    // The packets' room stands in its frame before it is on the heap.
+    #[inline(never)]
+    pub fn bind(
         host: &'a N,
+        alloc: Global,
         address: Address,
         port: u16,
         timeout: Timeout,
-        room: &'a mut packet_buffer::Room,
-    ) -> io::Result<Listening<'a, N>>
-        ensures { IfOk result (λ l. AreOut 0 l.tally.calls l.tally.failures l.given_back.all) }
+    ) -> io::Result<TcpAcceptor<'a, N>>
+        ensures new { IfOk result (λ acceptor. taken (⟦<TcpAcceptor<'a, N> as Accept>⟧.calls acceptor)
+            (⟦<TcpAcceptor<'a, N> as Accept>⟧.failures acceptor) (⟦<TcpAcceptor<'a, N> as Accept>⟧.lost acceptor)
+            (⟦<TcpAcceptor<'a, N> as Accept>⟧.given_back acceptor) ≡ nothing_taken) }
+        ensures out { IfOk result (λ acceptor. AreOut 0 (⟦<TcpAcceptor<'a, N> as Accept>⟧.calls acceptor)
+            (⟦<TcpAcceptor<'a, N> as Accept>⟧.failures acceptor)
+            (⟦<TcpAcceptor<'a, N> as Accept>⟧.given_back acceptor)) }
     {
-        Ok(Listening {
+        let room = Box::new(alloc, [0; ROOM])?;
+        Ok(TcpAcceptor {
             host,
             listener: listener_at(host, socket_of(address, port))?,
             timeout,
-            tally: Tally::new(),
-            lost: Tally::new(),
-            given_back: Exchanges::new(),
+            log: AcceptLog::new(),
             room: Some(room),
         })
+    }
+
+    /// Takes no more connections, and returns what is known of those that were taken.
+    pub fn into_log(self) -> AcceptLog
+        ensures { taken_by result ≡ taken (⟦<TcpAcceptor<'a, N> as Accept>⟧.calls self.entry)
+            (⟦<TcpAcceptor<'a, N> as Accept>⟧.failures self.entry) (⟦<TcpAcceptor<'a, N> as Accept>⟧.lost self.entry)
+            (⟦<TcpAcceptor<'a, N> as Accept>⟧.given_back self.entry) }
+    {
+        self.log
     }
 
     /// The next connection, which waits for no longer than it may.
@@ -231,10 +246,10 @@ impl<'a, N: Net + Clock> Listening<'a, N> {
 }
 
 /// A link that gathers packets, for which there is room while no other one is out.
-fn gathering_of<'a, S: Read + Write + Drop>(
+fn gathering_of<S: Read + Write + Drop>(
     stream: S,
-    room: &mut Option<&'a mut packet_buffer::Room>,
-) -> Option<Counted<PacketBuffer<'a, S>>>
+    room: &mut Option<Box<Room>>,
+) -> Option<Counted<PacketBuffer<S>>>
     ensures { IfSome result (λ link. (read_by link ≡ nothing_read) × (written_by link ≡ nothing_written)) }
 {
     match room.take() {
@@ -243,33 +258,33 @@ fn gathering_of<'a, S: Read + Write + Drop>(
     }
 }
 
-impl<'a, N: Net + Clock> Accept for Listening<'a, N> {
-    type Link = Counted<PacketBuffer<'a, TimeLimited<'a, N, N::Stream>>>;
+impl<'a, N: Net + Clock> Accept for TcpAcceptor<'a, N> {
+    type Link = Counted<PacketBuffer<TimeLimited<'a, N, N::Stream>>>;
 
-    ghost calls = { λ l. l.tally.calls };
+    ghost calls = { λ a. a.log.calls.calls };
 
-    ghost failures = { λ l. l.tally.failures };
+    ghost failures = { λ a. a.log.calls.failures };
 
-    ghost lost = { λ l. l.lost.failures };
+    ghost lost = { λ a. a.log.lost.failures };
 
-    ghost given_back = { λ l. l.given_back.all };
+    ghost given_back = { λ a. a.log.given_back.all };
 
-    fn accept(&mut self) -> Option<Counted<PacketBuffer<'a, TimeLimited<'a, N, N::Stream>>>> {
+    fn accept(&mut self) -> Option<Counted<PacketBuffer<TimeLimited<'a, N, N::Stream>>>> {
         let link = match self.next_limited() {
             Ok(stream) => gathering_of(stream, &mut self.room),
             Err(_) => None,
         };
-        self.tally.record(&[], link.is_none());
+        self.log.calls.record(&[], link.is_none());
         link
     }
 
     fn hang_up(
         &mut self,
-        link: Counted<PacketBuffer<'a, TimeLimited<'a, N, N::Stream>>>,
+        link: Counted<PacketBuffer<TimeLimited<'a, N, N::Stream>>>,
         failed: bool,
     ) {
-        self.given_back.record(&link);
-        self.lost.record(&[], failed);
+        self.log.given_back.record(&link);
+        self.log.lost.record(&[], failed);
         let (stream, room) = link.into_inner().into_parts();
         self.room = Some(room);
         close(self.host, stream.into_stream());
@@ -395,27 +410,6 @@ impl<'a, N: Net + Clock> Dial for Dialler<'a, N> {
         self.room = Some(link.into_inner().into_room());
         self.trouble = Some(Trouble::Lost(loss));
         loss
-    }
-}
-
-/// Serves a feed at an address and port of this host, and returns the exit status.
-///
-/// # Errors
-///
-/// Why the port can't be had, as one that is taken, or at an address that isn't of this host. Nobody was served then,
-/// and nothing was reported.
-pub fn serve<N: Net + Clock, A: Allocator, E: Sink>(
-    host: &N,
-    plan: &ServePlan<A>,
-    errors: &mut E,
-) -> Result<u8, ListenFault>
-    ensures served { IfOk result (λ status. HasServed status (E.written errors.old) (E.written errors.new)) }
-    ensures unserved { OnErr result (E.written errors.new ≡ E.written errors.old) }
-{
-    let mut room = [0; packet_buffer::ROOM];
-    match Listening::bind(host, plan.address, plan.port, plan.timeout, &mut room) {
-        Ok(mut listening) => Ok(serve_planned(plan, &mut listening, errors)),
-        Err(error) => Err(ListenFault::of(&error)),
     }
 }
 

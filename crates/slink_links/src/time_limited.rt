@@ -22,7 +22,7 @@ pub(crate) struct Limits {
 /// A stream whose reads and writes fail where they wait for longer than they may. In the handshake each may take what
 /// is left of its time.
 #[derive(Drop)]
-pub(crate) struct TimeLimited<'a, C: Clock, S: OpenStream> {
+pub struct TimeLimited<'a, C: Clock, S: OpenStream> {
     clock: &'a C,
     stream: S,
     limits: Limits,

@@ -14,7 +14,7 @@ pub enum DialFault {
 }
 
 impl DialFault {
-    /// The reason in words.
+    /// Returns the reason in words, at most 40 bytes.
     pub fn text(self) -> &'static str
         ensures text { result.now ≡ dial_text self }
         ensures most { length result.now ≤ 40 }
@@ -38,7 +38,7 @@ pub enum Loss {
 }
 
 impl Loss {
-    /// The reason in words.
+    /// Returns the reason in words, at most 40 bytes.
     pub fn text(self) -> &'static str
         ensures text { result.now ≡ loss_text self }
         ensures most { length result.now ≤ 40 }

@@ -1,15 +1,16 @@
-use Rattle.std.proofs.Common.{◌≡◌, arith, refl, rules}
+use Rattle.std.proofs.Common.{◌≡◌, [], append-nil, arith, refl, rules, sym}
 use Rattle.slink_links.specs.declared.fetching.FetchEnd.TheVariants.{LinkFailed}
-use Rattle.slink_links.specs.Fetched.{Calls, calls_of}
-use Rattle.slink_links.proofs.Fetches.{fetched_both, fetched_none, reads_none}
-use Rattle.slink_links.proofs.Tries.{few_counted, nothing_tried, reads_tried, tried_last, tried_more}
+use Rattle.slink_links.specs.Fetched.{Calls, calls_of, over_none}
+use Rattle.slink_links.proofs.Fetches.{fetched_both, fetched_none}
+use Rattle.slink_links.proofs.Tries.{after_most, nothing_tried, reads_tried, tried_last, tried_more}
 use Rattle.slink_links.proofs.fetching.fetch_links.Goals as goal
 
 pub returns-then-tries-eq0-clause-fetched : goal.returns-then-tries-eq0-clause-fetched
 returns-then-tries-eq0-clause-fetched g c = fetched_none _ _
 
 pub returns-then-tries-eq0-clause-read : goal.returns-then-tries-eq0-clause-read
-returns-then-tries-eq0-clause-read g c = reads_none _ _ _
+returns-then-tries-eq0-clause-read g c =
+    record { links = []; given_back = sym (append-nil _); read = over_none _ _ }
 
 pub links-init : goal.links-init
 links-init g c = record {
@@ -36,7 +37,9 @@ returns-then-ne-clause-paused g c =
 pub wait_after-count-requires : goal.wait_after-count-requires
 wait_after-count-requires g c = omega (
   arith,
-  few_counted _ _ _ _ _ _ _ c.links.invariant.tried,
+  c.links.invariant.tried.counted,
+  c.links.invariant.tried.dials,
+  after_most 0 c.links.invariant.tried.tries,
   c.links.invariant.dialled,
   c.links.invariant.some,
   c.ranges.tries.fits,

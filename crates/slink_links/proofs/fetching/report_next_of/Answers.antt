@@ -1,4 +1,5 @@
-use Rattle.slink_links.proofs.Ends.{next_reported, next_unreported}
+use Rattle.slink_feed.specs.Reporter.{none}
+use Rattle.slink_links.proofs.Ends.{next_reported}
 use Rattle.slink_links.proofs.fetching.report_next_of.Goals as goal
 
 pub returns-then-is_called : goal.returns-then-is_called
@@ -7,4 +8,4 @@ returns-then-is_called g c =
     c.if-is_called.true c.is_unwritten.ensures c.report_next.ensures
 
 pub returns-else-is_called : goal.returns-else-is_called
-returns-else-is_called g c = next_unreported _ _ _ c.if-is_called.false
+returns-else-is_called g c = rw c.if-is_called.false (none _)

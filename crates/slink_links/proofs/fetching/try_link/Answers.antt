@@ -1,8 +1,9 @@
-use Rattle.std.proofs.Common.{[], ◌∷◌, ◌++◌, ◌∙◌, ap, arith, length, length-append}
+use Rattle.std.proofs.Common.{[], ◌∷◌, ◌++◌, ◌∙◌, ap, append-nil, arith, length, length-append, refl, sym}
 use Rattle.mseed_stream.specs.Exchanges.{Exchange, exchange}
 use Rattle.slink_feed.specs.Reporter.{ReporterState}
+use Rattle.slink_links.specs.Fetched.{undialled}
 use Rattle.slink_links.proofs.Fetches.{fetched_none, was_over}
-use Rattle.slink_links.proofs.Tries.{tried_none, tried_over}
+use Rattle.slink_links.proofs.Tries.{tried_over}
 use Rattle.slink_links.proofs.fetching.try_link.Goals as goal
 
 pub returns-in-Ok-clause-tried : goal.returns-in-Ok-clause-tried
@@ -24,7 +25,11 @@ pub returns-in-Err-clause-fetched : goal.returns-in-Err-clause-fetched
 returns-in-Err-clause-fetched g c = fetched_none _ _
 
 pub returns-in-Err-clause-tried : goal.returns-in-Err-clause-tried
-returns-in-Err-clause-tried g c = tried_none _ _ _ _ c.in-Err.ensures.given_back
+returns-in-Err-clause-tried g c = record {
+  links = [];
+  given_back = c.in-Err.ensures.given_back ∙ sym (append-nil _);
+  tried = undialled refl refl refl refl;
+}
 
 pub returns-in-Ok-clause-out : goal.returns-in-Ok-clause-out
 returns-in-Ok-clause-out g c =
