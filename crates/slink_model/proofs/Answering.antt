@@ -1,8 +1,8 @@
 -- What a session makes of the lines that a client says.
 use Rattle.std.proofs.Common.{◌≡◌, ℕ, inl, inr, refl, sym, ap, subst, ◌∙◌, List, ◌++◌, append-nil}
 use Rattle.std.proofs.Common.{append_assoc}
-use Rattle.slink_wire.specs.declared.lines.What.{What}
-use Rattle.slink_wire.specs.declared.lines.What.TheVariants.{More, Line, TooLong}
+use Rattle.slink_wire.specs.declared.lines.LineOutcome.{LineOutcome}
+use Rattle.slink_wire.specs.declared.lines.LineOutcome.TheVariants.{More, Line, TooLong}
 use Rattle.slink_wire.specs.declared.reply.Reply.{Reply}
 use Rattle.slink_wire.specs.declared.reply.Reply.TheVariants as replies
 use Rattle.slink_wire.specs.declared.request.Request.{Request}
@@ -13,14 +13,15 @@ use Rattle.slink_wire.specs.Request.{request_line, requested}
 use Rattle.slink_feed.specs.Serving.{Answers, IsAnswer, Serves, SessionState, none_served, piece_served}
 use Rattle.slink_feed.specs.Session.{State, answered}
 use Rattle.slink_feed.specs.Window.{Window}
-use Rattle.slink_model.proofs.Lined.{IsAnswered, IsAsking, IsRead, more_called, nothing, the_line}
+use Rattle.slink_model.proofs.Lined.{IsAnswered, IsAsking}
+use Rattle.slink_model.proofs.Waiting.{IsRead, more_called, nothing, the_line}
 use Rattle.slink_model.proofs.Requested.{request_answered}
 use Rattle.slink_model.proofs.Waiting.{answered_more, answered_on}
 use Rattle.slink_feed.proofs.Closing.{Open, open_or, nothing_after}
 
 module _ (feed : List Window) where
   -- what a piece adds
-  reported_more : (s new : State) (reply : Reply) (what : What) → what ≡ More → IsAnswer feed s what new reply
+  reported_more : (s new : State) (reply : Reply) (what : LineOutcome) → what ≡ More → IsAnswer feed s what new reply
       → (new ≡ s) × (reply ≡ replies.Nothing)
   reported_more s new reply More e is = is
   reported_more s new reply (Line l) e is = absurd (let bad : Line l ≡ More = e in cc bad)
@@ -50,24 +51,19 @@ module _ (feed : List Window) where
       }
   quiet_on s bytes way last all rest taken (piece_served u now v bs piece others w sent reply split takes more) held
       reported =
-      let cut : IsAnswered taken (piece ++ (others ++ rest)) =
-      subst (IsAnswered taken) (ap (λ b. b ++ rest) split ∙ append_assoc piece others rest) reported in
-      let on : (lines_of (taken ++ piece) ≡ lines_of taken) × IsAnswered (taken ++ piece) (others ++ rest) =
-      answered_on taken piece (others ++ rest) cut in
+      let cut = subst (IsAnswered taken) (ap (λ b. b ++ rest) split ∙ append_assoc piece others rest) reported in
+      let on = answered_on taken piece (others ++ rest) cut in
       let same : (now.state ≡ u.state) × (reply ≡ replies.Nothing) = elim (open_or u.state.phase) [
         | inl shut ↦ (ap (λ (x : SessionState). x.state) (takes.closed shut).1, (takes.closed shut).0)
-        | inr awake ↦ let answer : Answers feed u.state taken (taken ++ piece) now.state reply =
-            takes.answers taken awake held in
+        | inr awake ↦ let answer = takes.answers taken awake held in
             reported_more u.state now.state reply answer.0
             (answered_more taken piece (others ++ rest) answer.0 cut answer.1) answer.2
       ] in
       let held_now : IsHeld now.held (taken ++ piece) = elim (open_or u.state.phase) [
-        | inl shut ↦ subst (λ (x : SessionState). IsHeld x.held (taken ++ piece)) (sym (takes.closed shut).1)
-            (held_on u.held taken (taken ++ piece) on.0 held)
+        | inl shut ↦ rw (takes.closed shut).1 (held_on u.held taken (taken ++ piece) on.0 held)
         | inr awake ↦ takes.held taken awake held
       ] in
-      let after : IsOn now v (w ++ reply_bytes reply) sent ((taken ++ piece) ++ others) rest =
-      quiet_on now others (w ++ reply_bytes reply) v sent rest (taken ++ piece) more held_now on.1 in
+      let after = quiet_on now others (w ++ reply_bytes reply) v sent rest (taken ++ piece) more held_now on.1 in
       let all_taken : (taken ++ piece) ++ others ≡ taken ++ bs = append_assoc taken piece others
       ∙ ap (λ b. taken ++ b) (sym split) in
       record {
@@ -90,16 +86,15 @@ module _ (feed : List Window) where
           → Comes last way all taken rest
 
     module _ (awake : Open s.phase) (known : IsCommand (request_line request) (requested request)) where
-      piece_on : (now last : SessionState) (taken piece others rest way all : List ℕ) (reply : Reply) (what : What)
-          → IsHeld now.held (taken ++ piece) → IsAnswer feed s what now.state reply
+      piece_on : (now last : SessionState) (taken piece others rest way all : List ℕ) (reply : Reply)
+          (what : LineOutcome) → IsHeld now.held (taken ++ piece) → IsAnswer feed s what now.state reply
           → IsRead line (taken ++ piece) (others ++ rest) what
           → Serves feed now others (way ++ reply_bytes reply) last all
           → (IsAsking line (taken ++ piece) (others ++ rest) → now.state ≡ s
           → Comes last (way ++ reply_bytes reply) all ((taken ++ piece) ++ others) rest)
           → Comes last way all ((taken ++ piece) ++ others) rest
       piece_on now last taken piece others rest way all reply More held is (nothing asks) more next =
-          subst (λ b. Comes last b all ((taken ++ piece) ++ others) rest) (nothing_after way reply is.1)
-          (next asks is.0)
+          rw (nothing_after way reply is.1) at (next asks is.0)
       piece_on now last taken piece others rest way all reply (Line l) held is (the_line items same reported) more next
           =
           let it = request_answered feed s now.state items request reply same known is in
@@ -118,8 +113,7 @@ module _ (feed : List Window) where
           same held asks =
           let still : Open u'.state.phase = subst (λ (x : State). Open x.phase) (sym same) awake in
           let answer : Answers feed u'.state taken (taken ++ piece) now.state reply = takes.answers taken still held in
-          let read : IsRead line (taken ++ piece) (others ++ rest) answer.0 =
-          more_called line taken piece (others ++ rest) answer.0
+          let read = more_called line taken piece (others ++ rest) answer.0
           (subst (IsAsking line taken) (ap (λ b. b ++ rest) split ∙ append_assoc piece others rest) asks) answer.1 in
           let all_taken : (taken ++ piece) ++ others ≡ taken ++ bs = append_assoc taken piece others
           ∙ ap (λ b. taken ++ b) (sym split) in

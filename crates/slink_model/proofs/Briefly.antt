@@ -1,20 +1,16 @@
 -- In fewer than 2^24 steps fewer than 2^24 records are lacking.
-use Rattle.std.proofs.Common.{◌≡◌, ℕ, ◌+◌, ◌^◌, ◌<◌, ◌≤◌, ap, subst, arith, zero, suc, List, [], ◌∷◌}
-use Rattle.std.proofs.Common.{length, length-append, get_or, Option, Some, None}
+use Rattle.std.proofs.Common.{◌≡◌, ℕ, ◌+◌, ◌^◌, ◌<◌, ◌≤◌, ap, arith, List, [], ◌∷◌}
+use Rattle.std.proofs.Common.{length, length-append, get_or, Option, Some}
 use Rattle.slink_model.specs.declared.world.Setup.{Setup}
 use Rattle.slink_model.specs.declared.world.Step.{Step}
 use Rattle.slink_feed.specs.Dialogue.{next_at}
 use Rattle.slink_model.specs.Slice.{HoldsSlices, IsSchedule, LackFew, LacksFew}
 use Rattle.slink_model.specs.Ties.{Holds, Places, WorldTies}
-use Rattle.slink_model.specs.World.{AllHappen, Differ, Numbers, WorldState, number_at, opening}
+use Rattle.slink_model.specs.World.{AllHappen, Differ, WorldState, opening}
+use Rattle.slink_model.proofs.Stations.{slot_within}
 use Rattle.slink_model.proofs.Worlds.{opening_ties, slice_held, step_ties}
 use Rattle.slink_model.proofs.Pushed.{AreOf, Rings, each_of, moves, nothing_at, one_at_most, opening_rings, rings_next}
 use Rattle.slink_model.specs.Pushed.{appended_by}
-
-no_number : (numbers : Numbers) (k s : ℕ) → number_at numbers k ≡ Some s → k < length numbers
-no_number [] k s h = absurd (let bad : None ≡ Some s = h in cc bad)
-no_number (n ∷ ns) zero s h = omega arith
-no_number (n ∷ ns) (suc k) s h = let more : k < length ns = no_number ns k s h in omega (arith, more)
 
 started_after : (first s : ℕ) (F : List (List ℕ)) (next : Option ℕ) (held : List (List ℕ))
     → Holds first F next held (Some s) → first ≤ s
@@ -23,10 +19,9 @@ started_after first s F next held h = omega (arith, h.3)
 lacks_few : (places : Places) (first : ℕ) (w : WorldState) → WorldTies places first w
     → ((i : ℕ) → length (get_or w.pushed i []) < 2 ^ 24) → LacksFew first w
 lacks_few places first w t short k s is =
-    let lt : k < length places = omega (arith, no_number w.start k s is, t.long.1) in
+    let lt : k < length places = omega (arith, slot_within w.start k s is, t.beside.long.1) in
     let from = started_after first s (get_or w.pushed k []) (next_at w.client.talk.wants k) (get_or w.held k [])
-    (subst (Holds first (get_or w.pushed k []) (next_at w.client.talk.wants k) (get_or w.held k [])) is (t.holds k lt))
-    in
+    (rw is at (t.beside.holds k lt)) in
     omega (arith, from, short k)
 
 module _ (setup : Setup) (room : setup.capacity ≤ 1000000) where

@@ -1,7 +1,7 @@
 -- A client that says the number which it wants next is answered by that number.
 use Rattle.slink_model.proofs.Pushed.{ringed}
 use Rattle.std.proofs.Common.{◌≡◌, ◌≢◌, ℕ, ◌+◌, ◌≤◌, ◌⊎◌, inl, inr, refl, sym, ap, subst, ◌∙◌, arith, Bool, true, false}
-use Rattle.std.proofs.Common.{not, ◌&&◌, List, [], ◌∷◌, ◌++◌, length, length-drop, set, drop, Option, Some, None}
+use Rattle.std.proofs.Common.{not, ◌&&◌, List, [], ◌∷◌, ◌++◌, length, length-drop, set, Option, Some, None}
 use Rattle.std.proofs.Common.{slice_get}
 use Rattle.std.specs.Option.{option_and_then}
 use Rattle.std.proofs.lemmas.Bool.{and_parts}
@@ -18,12 +18,12 @@ use Rattle.slink_model.specs.declared.world.Setup.{Setup}
 use Rattle.slink_model.specs.declared.world.Step.{Step}
 use Rattle.slink_model.specs.declared.world.Step.TheVariants.{ToServer}
 use Rattle.slink_model.specs.Calling.{AreAnswered, Awaits, IsAnswered as IsAnsweredBy, IsUnanswered}
-use Rattle.slink_model.specs.Counted.{CountedLink, answer_at, counted_after, counted_opening, if_come, served_by}
+use Rattle.slink_model.specs.Counted.{CountedLink, answer_at, if_come, served_by}
 use Rattle.slink_model.specs.Counted.{taken_by, waits}
 use Rattle.slink_feed.specs.Dialogue.{Talk, next_at}
 use Rattle.slink_feed.specs.Grant.{grant_of}
 use Rattle.slink_feed.specs.Listening.{IsLinked}
-use Rattle.slink_feed.specs.Session.{Grants, State, called, grant_at, granted}
+use Rattle.slink_feed.specs.Session.{Grants, State, grant_at, granted}
 use Rattle.slink_model.specs.Spared.{AreAskable}
 use Rattle.slink_model.specs.Slice.{IsSchedule, LackFew, Resumes}
 use Rattle.slink_model.specs.Ties.{Item, Places, items_of, way_bytes}
@@ -31,11 +31,10 @@ use Rattle.slink_model.specs.World.{AllHappen, Both, Happens, IsServed, LinkStat
 use Rattle.slink_feed.proofs.Items.{put_there, same_or_not}
 use Rattle.slink_feed.proofs.Reached.{grant_set}
 use Rattle.slink_model.proofs.Counts.{Counts, served_counts}
-use Rattle.slink_model.proofs.CountedWorld.{AreCounts, IsWorld, at_after, link_at}
+use Rattle.slink_model.proofs.CountedWorld.{at_after, link_at}
 use Rattle.slink_model.proofs.Items.{reply_items, way_more}
 use Rattle.slink_model.proofs.Resumed.{resume_granted}
-use Rattle.slink_model.proofs.Shaking.{Shakes, asks_end, asks_number, asks_place, has_none, has_number, has_place}
-use Rattle.slink_model.proofs.Shaking.{streams}
+use Rattle.slink_model.proofs.Shaking.{Shakes, asks, has, streams}
 use Rattle.slink_model.proofs.Waiting.{answered_few}
 
 granted_there : (s new : State) (reply : Reply) (k i : ℕ) (mode : Mode) (o : Option ℕ) → i ≢ k
@@ -59,17 +58,11 @@ empty_right (x ∷ xs) ys e = absurd (let bad : x ∷ (xs ++ ys) ≡ [] = e in c
 -- While a line waits for its answer, nothing is on its way to the client.
 nothing_comes : (talk : Talk) (phase : Phase) (taken way : List ℕ) (items : List Item) → 2 ≤ length way
     → Shakes talk phase taken way items → items ≡ []
-nothing_comes talk phase taken way items long (asks_place k w stage want ready asks none) = none
-nothing_comes talk phase taken way items long (has_place k stage at_phase answered one) =
-    absurd (omega (arith, long, answered_few taken way answered))
-nothing_comes talk phase taken way items long (asks_number k stage at_phase asks none) = none
-nothing_comes talk phase taken way items long (has_number k stage at_phase answered one) =
-    absurd (omega (arith, long, answered_few taken way answered))
-nothing_comes talk phase taken way items long (has_none k stage at_phase answered one) =
-    absurd (omega (arith, long, answered_few taken way answered))
-nothing_comes talk phase taken way items long (asks_end k stage at_phase asks none) = none
-nothing_comes talk phase taken way items long (streams stage later sent answered) =
-    absurd (omega (arith, long, answered_few taken way answered))
+nothing_comes talk phase taken way items long (asks r asked asking none) = none
+nothing_comes talk phase taken way items long (has i at told one) =
+    absurd (omega (arith, long, answered_few taken way told))
+nothing_comes talk phase taken way items long (streams stage later sent told) =
+    absurd (omega (arith, long, answered_few taken way told))
 
 module _ (places : Places) (w : WorldState) (resumes : Resumes w) (n : ℕ) (l m : LinkState) (c : CountedLink)
     (old : Counts places w.client c l) (new : Counts places w.client (served_by w.windows w.client.talk n c) m) where
@@ -95,12 +88,10 @@ module _ (places : Places) (w : WorldState) (resumes : Resumes w) (n : ℕ) (l m
         | inr less ↦ absurd (let bad : true ≡ false = sym (waiting refl) ∙ less.0 in cc bad)
       ] in
       it_came x.1
-      (λ there. (old.linked there).flows.flow
-      ∙ ap way_bytes (nothing_comes w.client.talk l.session.state.phase _ l.to_server _ long (old.linked there).shakes))
-      (now.to_client ∙ (ap (drop c.delivered) (way_more c.sent (items_of x.1))
-      ∙ (drop-append-le c.delivered way (way_bytes (items_of x.1)) old.delivered_few
-      ∙ (ap (λ b. b ++ way_bytes (items_of x.1)) (sym old.to_client)
-      ∙ ap (λ b. l.to_client ++ b) (sym (reply_items x.1))))))
+      (λ there. (old.linked there).flow ∙ ap way_bytes
+      (nothing_comes w.client.talk l.session.state.phase _ l.to_server _ long (old.linked there).left.shakes))
+      (rw (now.to_client, old.to_client, reply_items x.1, way_more c.sent (items_of x.1))
+      (drop-append-le c.delivered way (way_bytes (items_of x.1)) old.delivered_few))
       (ap (answer_at stage w.windows w.client.talk) old.session ∙ ap (λ (s : State). (s, x.1)) (sym now.session))
 
   came : Comes
@@ -113,9 +104,7 @@ module _ (places : Places) (w : WorldState) (resumes : Resumes w) (n : ℕ) (l m
       → answer_at w.client.talk.stage w.windows w.client.talk l.session.state ≡ (m.session.state, reply)
       → IsAnsweredBy w k l m
   by_number k reply stage none sent is =
-      let number : called w.windows k w.client.talk.mode (next_at w.client.talk.wants k) l.session.state
-      ≡ (m.session.state, reply) =
-      ap (λ (s : Stage). answer_at s w.windows w.client.talk l.session.state) (sym stage) ∙ is in
+      let number = ap (λ (s : Stage). answer_at s w.windows w.client.talk l.session.state) (sym stage) ∙ is in
       record {
         reply = reply;
         written = sent ∙ ap (λ b. b ++ reply_bytes reply) (empty_right w.client.kept l.to_client none);
@@ -173,10 +162,8 @@ module _ (setup : Setup) (steps : List Step) (now : WorldState) (run : AllHappen
       → now.link ≡ Some l → next.link ≡ Some m → AreAnswered now l m
   answered_after n next l m happens was becomes =
       let at = at_after setup steps now run is askable in
-      let world : IsWorld setup is.differ askable.codes (counted_after setup (counted_opening setup) steps) now =
-      at.world in
-      let c = link_at setup is.differ askable.codes now.client _ l
-      (subst (AreCounts setup is.differ askable.codes now.client _) was world.counts) in
+      let world = at.world in
+      let c = link_at setup is.differ askable.codes now.client _ l (rw was at world.counts) in
       are_answered setup.places.items now (resume_granted setup steps now run is lacks) n l m c.0 c.2
       (served_counts setup.places.items is.differ askable.codes now.client world.stands.called now.windows
       (ringed setup now at.rings) n l m (rw was at (subst (Both (IsServed now.windows n) now.link) becomes happens.1))

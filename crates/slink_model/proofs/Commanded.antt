@@ -3,8 +3,8 @@ use Rattle.std.proofs.Common.{◌≡◌, ℕ, ◌≤◌, inl, inr, refl, sym, su
 use Rattle.std.specs.Option.{option_and_then}
 use Rattle.slink_wire.specs.declared.command.Command.{Command}
 use Rattle.slink_wire.specs.declared.command.Command.TheVariants.{Station, Data, Fetch, End, Bye}
-use Rattle.slink_wire.specs.declared.lines.What.{What}
-use Rattle.slink_wire.specs.declared.lines.What.TheVariants.{More, Line, TooLong}
+use Rattle.slink_wire.specs.declared.lines.LineOutcome.{LineOutcome}
+use Rattle.slink_wire.specs.declared.lines.LineOutcome.TheVariants.{More, Line, TooLong}
 use Rattle.slink_wire.specs.declared.reply.Reply.{Reply}
 use Rattle.slink_wire.specs.declared.reply.Reply.TheVariants as replies
 use Rattle.slink_feed.specs.declared.grant.Mode.{Mode}
@@ -91,7 +91,7 @@ module _ (feed : List Window) (s : State) where
   leaves_nothing phase e = stay
 
   -- whatever line came
-  pub leaves : (what : What) (new : State) (reply : Reply) → IsAnswer feed s what new reply
+  pub leaves : (what : LineOutcome) (new : State) (reply : Reply) → IsAnswer feed s what new reply
       → Leaves s.phase feed s (new, reply)
   leaves More new reply is = let a : new ≡ s = is.0 in let b : reply ≡ replies.Nothing = is.1 in
       let p : (s, replies.Nothing) ≡ (new, reply) = cc in subst (Leaves s.phase feed s) p (leaves_nothing s.phase refl)

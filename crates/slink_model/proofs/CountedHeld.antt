@@ -1,43 +1,43 @@
 -- What a client holds of a link are the records of the whole packets that came to it.
 use Rattle.std.specs.List.{AllByRecursion}
 use Rattle.slink_model.proofs.Pushed.{in_turn}
-use Rattle.slink_model.proofs.CountedWorld.{wide_event}
+use Rattle.slink_model.specs.Spared.{HaveCodes}
+use Rattle.slink_model.specs.Counted.{with_event}
+use Rattle.slink_model.proofs.Shaking.{packets_sent}
+use Rattle.slink_model.proofs.Counted.{Hears, hears_number, hears_packet, hears_place}
+use Rattle.slink_feed.specs.declared.dialogue.Stage.{Stage}
 use Rattle.slink_model.proofs.Shaking.{AreCalled}
 use Rattle.slink_model.proofs.Counting.{wholes_length}
 use Rattle.std.proofs.Common.{take_at}
 use Rattle.slink_model.specs.Counted.{ArePackets}
 use Rattle.std.proofs.Common.{◌≡◌, All, ℕ, ◌+◌, ◌-◌, ◌*◌, ◌/◌, ◌%◌, ◌^◌, ◌<◌, ◌≤◌, zero, suc, refl, sym}
 use Rattle.std.proofs.Common.{ap, subst, ◌∙◌, arith, List, [], ◌∷◌, ◌++◌}
-use Rattle.std.proofs.Common.{append-nil, append_assoc, length, length-append, replicate, take, get_or}
-use Rattle.std.proofs.Common.{Option, Some, None, slice_get}
+use Rattle.std.proofs.Common.{append-nil, append_assoc, length, length-append, replicate, get_or}
+use Rattle.std.proofs.Common.{Option, Some, None}
 use Rattle.std.proofs.lemmas.Option.{slice_get_within}
-use Rattle.slink_wire.specs.Place.{Fields, IsField}
-use Rattle.slink_feed.specs.declared.dialogue.Event.{Event}
 use Rattle.slink_feed.specs.declared.dialogue.Stage.{Stage}
 use Rattle.slink_feed.specs.declared.dialogue.Stage.TheVariants.{Packets}
 use Rattle.slink_feed.specs.declared.dialogue.Wanted.{Wanted}
-use Rattle.slink_feed.specs.Dialogue.{Packet, Talk, heard, to_place, reported, want_at}
+use Rattle.slink_feed.specs.Dialogue.{Talk, heard, to_place, want_at}
 use Rattle.slink_feed.specs.Listening.{IsLinked}
 use Rattle.slink_model.specs.declared.world.Setup.{Setup}
 use Rattle.slink_model.specs.declared.world.Step.{Step}
 use Rattle.slink_model.specs.declared.world.Step.TheVariants.{Connect}
 use Rattle.slink_model.specs.Counted.{AreItems, Counted, CountedLink, Gained}
-use Rattle.slink_model.specs.Counted.{undelivered, counted_after, counted_opening, counted_step, events_upon}
+use Rattle.slink_model.specs.Counted.{undelivered, counted_after, counted_opening, counted_step}
 use Rattle.slink_model.specs.Counted.{on_item, part}
-use Rattle.slink_model.specs.Counted.{talk_upon, wholes, with_event, with_events}
+use Rattle.slink_model.specs.Counted.{wholes, with_event}
 use Rattle.slink_model.specs.Spared.{AreAskable}
 use Rattle.slink_model.specs.Slice.{IsSchedule}
 use Rattle.slink_model.specs.Ties.{Item, Accepted, Carried, Finished, Places, item_bytes, way_bytes}
 use Rattle.slink_model.specs.Whole.{HoldsMore, HoldsWhole, KeepsLink, held_count, packet_count, record_in, records_in}
 use Rattle.slink_model.specs.World.{AllHappen, Differ, Lists, Numbers, WorldState, opening, with_one}
-use Rattle.slink_model.proofs.CountedShape.{AreFacts, Along, HasShape, Hears, LinkFacts, Shape, hears_nothing}
-use Rattle.slink_model.proofs.CountedShape.{hears_number, hears_packets, hears_place, items_are, packets_sent}
-use Rattle.slink_model.proofs.CountedShape.{replies_length, shape_next, step_along, streamed_at}
+use Rattle.slink_model.proofs.CountedShape.{AreFacts, Along, HasShape, LinkFacts, Shape, items_are, replies_length}
+use Rattle.slink_model.proofs.CountedShape.{shape_next, step_along, streamed_at}
 use Rattle.slink_model.proofs.CountedWorld.{IsAt, at_after, called_of, facts_of, next_at, opening_at}
 use Rattle.slink_model.proofs.CountedWorld.{the_counted_world}
 use Rattle.slink_model.proofs.Counting.{whole_or}
 use Rattle.slink_model.proofs.Pushed.{one_more}
-use Rattle.slink_model.proofs.Shaking.{AreOfPlace}
 use Rattle.slink_model.proofs.Pushed.{AreOf, each_of}
 use Rattle.slink_feed.proofs.Prefixed.{packet_long}
 
@@ -55,8 +55,7 @@ in_replies k (suc m) is = in_replies k m is
 -- the packets of two lists of items
 counted_more : (xs ys : List Item) → packet_count (xs ++ ys) ≡ packet_count xs + packet_count ys
 counted_more [] ys = omega arith
-counted_more (Carried k n r ∷ xs) ys =
-    let more : packet_count (xs ++ ys) ≡ packet_count xs + packet_count ys = counted_more xs ys in omega (arith, more)
+counted_more (Carried k n r ∷ xs) ys = omega (arith, counted_more xs ys)
 counted_more (x ∷ xs) ys = counted_more xs ys
 
 counted_replies : (m : ℕ) (is : List Item) → packet_count (replicate m Accepted ++ is) ≡ packet_count is
@@ -69,8 +68,7 @@ one_counted : (lists : Lists) (j : ℕ) (b : List ℕ) → j < length lists
 one_counted [] j b lt = absurd (omega (arith, lt))
 one_counted (xs ∷ lists) zero b lt = omega (arith, length-append xs (b ∷ []))
 one_counted (xs ∷ lists) (suc j) b lt =
-    let more : held_count (with_one lists j b) ≡ held_count lists + 1 = one_counted lists j b (omega (arith, lt)) in
-    omega (arith, more)
+    let within : j < length lists = omega (arith, lt) in omega (arith, one_counted lists j b within)
 
 -- nothing more, and more after more
 holds_none : (held : Lists) → HoldsMore held [] held
@@ -85,26 +83,14 @@ holds_both old mid held xs ys a b = record {
   count = omega (arith, a.count, b.count, counted_more xs ys);
 }
 
--- what packets bring
-held_packets : (places : Places) (f : Numbers) (is : List Item) (t : Talk) (g : Gained) → t.stage ≡ Packets
-    → ArePackets is → AreOfPlace places is → length g.held ≡ length places
-    → HoldsMore g.held is (with_events f (events_upon t is) g).held
-held_packets places f [] t g p are matched wide = holds_none g.held
-held_packets places f (Carried j n r ∷ is) t g p are matched wide =
-    let x : Talk × Event = reported j (n % 2 ^ 24) r (heard (Packet (n % 2 ^ 24) r) t) in
-    let h : on_item t.stage (Carried j n r) t ≡ x = ap (λ (s : Stage). on_item s (Carried j n r) t) p in
-    let within : j < length places = slice_get_within places j matched.0.0 matched.0.1 in
-    let lt : j < length g.held = omega (arith, within, wide) in
-    let more : Gained = with_event f x.1 g in
-    let rest : HoldsMore more.held is (with_events f (events_upon x.0 is) more).held =
-    held_packets places f is x.0 more p are.1 matched.1 (wide_event f x.1 g ∙ wide) in
-    subst (λ (y : Talk × Event). HoldsMore g.held (Carried j n r ∷ is)
-    (with_events f (events_upon y.0 is) (with_event f y.1 g)).held) (sym h) (record {
-      each = λ k. rest.each k ∙ (ap (λ rs. rs ++ records_in k is) (one_more g.held j k r lt)
-          ∙ append_assoc (get_or g.held k []) (record_in k (Carried j n r)) (records_in k is));
-      count = omega (arith, rest.count, one_counted g.held j r lt);
-    })
-held_packets places f (i ∷ is) t g p are matched wide = absurd are
+-- what a packet brings
+packet_held : (held : Lists) (j n : ℕ) (r : List ℕ) → j < length held
+    → HoldsMore held (Carried j n r ∷ []) (with_one held j r)
+packet_held held j n r lt = record {
+  each = λ k. one_more held j k r lt ∙ ap (λ rs. get_or held k [] ++ rs)
+      (sym (append-nil (record_in k (Carried j n r))));
+  count = omega (arith, one_counted held j r lt);
+}
 
 -- a line that is given brings nothing
 placed : (f : Numbers) (k : ℕ) (o : Option Wanted) (t : Talk) (g : Gained)
@@ -123,30 +109,26 @@ module _ (places : Places) (before : Lists) where
       (subst (HoldsMore held (Accepted ∷ [])) (sym same)
       (record { each = λ k. sym (append-nil (get_or held k [])); count = omega arith }))
 
-  pub held_next : (t : Talk) (f : Numbers) (g : Gained) (old ws : List Item) → AreCalled places t.wants
-      → length g.held ≡ length places → Holding t g.held old → Hears places t ws
-      → Holding (talk_upon t ws) (with_events f (events_upon t ws) g).held (old ++ ws)
-  held_next t f g old ws called wide h hears_nothing =
-      subst (λ is. HoldsMore before is g.held) (sym (append-nil old)) h
-  held_next t f g old ws called wide h (hears_place k stage) =
-      reply_held g.held (with_event f (on_item t.stage Accepted t).1 g).held old
-      (ap (λ (s : Stage). (with_event f (on_item s Accepted t).1 g).held) stage) h
-  held_next t f g old ws called wide h (hears_number k stage) =
+  pub held_next : (t : Talk) (f : Numbers) (g : Gained) (old : List Item) (i : Item) → AreCalled places t.wants
+      → length g.held ≡ length places → Holding t g.held old → Hears places t i
+      → Holding (on_item t.stage i t).0 (with_event f (on_item t.stage i t).1 g).held (old ++ i ∷ [])
+  held_next t f g old i called wide h (hears_place k stage) =
+      rw stage (reply_held g.held g.held old refl h)
+  held_next t f g old i called wide h (hears_number k stage) =
       reply_held g.held (with_event f (on_item t.stage Accepted t).1 g).held old
       (ap (λ (s : Stage). (with_event f (on_item s Accepted t).1 g).held) stage
       ∙ placed f (k + 1) (want_at t.wants (k + 1)) _ g) h
-  held_next t f g old ws called wide h (hears_packets vs stage after are all) =
-      holds_both before g.held (with_events f (events_upon t vs) g).held old vs h
-      (held_packets places f vs t g stage are all wide)
+  held_next t f g old i called wide h (hears_packet j n r stage of) =
+      rw stage (holds_both before g.held (with_one g.held j r) old (Carried j n r ∷ []) h
+      (packet_held g.held j n r (omega (arith, slice_get_within places j of.0 of.1, wide))))
 
-module _ (setup : Setup) (differ : Differ setup.places.items) (codes : (k : ℕ) (p : Fields × Option ℕ)
-    → slice_get setup.places.items k ≡ Some p → IsField 5 p.0.station × IsField 2 p.0.network)
+module _ (setup : Setup) (differ : Differ setup.places.items) (codes : HaveCodes setup.places.items)
     (some : 0 < length setup.places.items) where
   abbrev places : Places
   places = setup.places.items
 
   abbrev Held : Lists → Counted → Type 0
-  Held before c = Along places (Holding places before) (held_next places before) c.talk c.held c.link
+  Held before c = Along places differ codes (Holding places before) (held_next places before) c.talk c.held c.link
 
   all_held : (before : Lists) (steps : List Step) (w v : WorldState) (c : Counted) (run : AllHappen w steps v)
       → AreOf places steps → AllByRecursion KeepsLink steps → IsAt setup differ codes c w → Held before c
@@ -155,7 +137,7 @@ module _ (setup : Setup) (differ : Differ setup.places.items) (codes : (k : ℕ)
   all_held before (step ∷ steps) w v c run of keep on h =
       all_held before steps run.0 v (counted_step setup c step) run.2 of.2 keep.1
       (next_at setup differ codes w run.0 c step some of.0 of.1 run.1 on)
-      (step_along places (Holding places before) (held_next places before) setup c step keep.0
+      (step_along places differ codes (Holding places before) (held_next places before) setup c step keep.0
       (called_of setup differ codes c w on.world) on.wide (facts_of setup differ codes c w on.world) h)
 
   -- from the moment on when the client connects
@@ -173,9 +155,12 @@ module _ (setup : Setup) (differ : Differ setup.places.items) (codes : (k : ℕ)
 -- packets by how many they are
 packets_length : (is : List Item) → ArePackets is → length (way_bytes is) ≡ 520 * length is
 packets_length [] are = omega arith
-packets_length (Carried k n r ∷ is) are =
-    let more = packets_length is are.1 in
-    omega (arith, more, packet_long (n % 2 ^ 24) r are.0, length-append (item_bytes (Carried k n r)) (way_bytes is))
+packets_length (Carried k n r ∷ is) are = omega (
+  arith,
+  packets_length is are.1,
+  packet_long (n % 2 ^ 24) r are.0,
+  length-append (item_bytes (Carried k n r)) (way_bytes is),
+)
 packets_length (i ∷ is) are = absurd are
 
 packets_counted : (is : List Item) → ArePackets is → packet_count is ≡ length is
@@ -208,11 +193,10 @@ whole_counted places old held talk l p y x h =
       ap (λ (is : List Item). length (way_bytes is)) x.heard_is,
       replies_length (2 * n) x.packets,
       packets_length x.packets x.are,
-      part_short l.sent l.delivered y.few (items_are places y.phase [] its tt
-          (packets_sent talk y.phase y.taken y.way its p y.shakes) y.matched y.ends),
+      part_short l.sent l.delivered y.few (items_are places y.s.phase [] its tt
+          (packets_sent talk y.s.phase y.taken y.way its p y.left.shakes) y.left.matched y.left.ends),
     ) in
-    let some : take ((l.delivered - 8 * n) / 520) (x.packets ++ its) ≡ x.packets =
-    take_at x.packets its ((l.delivered - 8 * n) / 520) (sym count) in
+    let some = take_at x.packets its ((l.delivered - 8 * n) / 520) (sym count) in
     let packets : packet_count (wholes l.delivered l.sent) ≡ packet_count x.packets =
     ap packet_count x.heard_is ∙ counted_replies (2 * n) x.packets in
     record {
@@ -249,7 +233,8 @@ module _ (setup : Setup) (before steps : List Step) (now : WorldState)
   -- While the client takes from its link, it holds the records of what is whole.
   pub holds_whole : IsLinked after.talk.stage → HoldsMore old (wholes l.delivered l.sent) now.held
   holds_whole = subst (λ (held : Lists). IsLinked after.talk.stage → HoldsMore old (wholes l.delivered l.sent) held)
-      (sym same) (subst (Along ps (Holding ps old) (held_next ps old) after.talk after.held) is
+      (sym same) (subst (Along ps schedule.differ askable.codes (Holding ps old) (held_next ps old)
+      after.talk after.held) is
       (link_held setup schedule.differ askable.codes askable.some before steps (opening setup) now
       (counted_opening setup) run (each_of ps all schedule.of_places schedule.sound) (in_turn KeepsLink steps keep)
       (opening_at setup all schedule askable)))
@@ -262,4 +247,5 @@ module _ (setup : Setup) (before steps : List Step) (now : WorldState)
       whole_counted ps old now.held after.talk l p
       (subst (AreFacts ps after.talk) is (facts_of setup schedule.differ askable.codes after now at.world) linked)
       (subst (λ (s : Stage). Shape ps s (wholes l.delivered l.sent)) p
-      (subst (Along ps (HasShape ps) (shape_next ps) after.talk after.held) is at.shaped linked)) (holds_whole linked)
+      (subst (Along ps schedule.differ askable.codes (HasShape ps) (shape_next ps) after.talk after.held)
+      is at.shaped linked)) (holds_whole linked)

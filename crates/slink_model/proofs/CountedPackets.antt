@@ -50,45 +50,43 @@ one_ended d all =
     whole_or Finished [] d (λ ws bs p. ws ≡ Finished ∷ []) (λ fits. refl) (λ lt. absurd (omega (arith, all, lt)))
 
 -- after the replies
-pub after_replies : (places delivered : ℕ) (ps : List Item) → 8 * places ≤ delivered
-    → wholes delivered (replicate (2 * places) Accepted ++ ps) ≡ replicate (2 * places) Accepted ++ wholes
-    (delivered - 8 * places) ps
-after_replies places delivered ps le =
-    replies_whole (2 * places) delivered ps (omega (arith, le))
-    ∙ ap (λ e. replicate (2 * places) Accepted ++ wholes e ps)
-    (let e : delivered - 4 * (2 * places) ≡ delivered - 8 * places = omega arith in e)
+after_replies : (places delivered : ℕ) (ps tail : List Item) → ArePackets ps → wholes 0 tail ≡ []
+    → 8 * places ≤ delivered
+    → wholes delivered (replicate (2 * places) Accepted ++ (ps ++ tail)) ≡ replicate (2 * places) Accepted
+    ++ (take ((delivered - 8 * places) / 520) ps ++ wholes (delivered - 8 * places - 520 * length ps) tail)
+after_replies places delivered ps tail are none le =
+    let e : delivered - 4 * (2 * places) ≡ delivered - 8 * places = omega arith in
+    replies_whole (2 * places) delivered (ps ++ tail) (omega (arith, le))
+    ∙ ap (λ ws. replicate (2 * places) Accepted ++ ws)
+    (ap (λ d. wholes d (ps ++ tail)) e ∙ packets_whole ps tail (delivered - 8 * places) are none)
 
 pub counted_packets : (places delivered : ℕ) (packets : List Item) → ArePackets packets → 8 * places ≤ delivered
     → wholes delivered (replicate (2 * places) Accepted ++ packets) ≡ replicate (2 * places) Accepted ++ take
     ((delivered - 8 * places) / 520) packets
 counted_packets places delivered packets are le =
-    after_replies places delivered packets le
-    ∙ ap (λ ps. replicate (2 * places) Accepted ++ ps)
-    (ap (wholes (delivered - 8 * places)) (sym (append-nil packets))
-    ∙ (packets_whole packets [] (delivered - 8 * places) are refl
-    ∙ append-nil (take ((delivered - 8 * places) / 520) packets)))
+    ap (λ ps. wholes delivered (replicate (2 * places) Accepted ++ ps)) (sym (append-nil packets))
+    ∙ (after_replies places delivered packets [] are refl le
+    ∙ ap (λ ps. replicate (2 * places) Accepted ++ ps) (append-nil (take ((delivered - 8 * places) / 520) packets)))
 
 pub counted_ending : (places delivered : ℕ) (packets : List Item) → ArePackets packets → 8 * places ≤ delivered
     → delivered < 8 * places + 520 * length packets + 3
     → wholes delivered (replicate (2 * places) Accepted ++ (packets ++ Finished ∷ [])) ≡ replicate (2 * places)
     Accepted ++ take ((delivered - 8 * places) / 520) packets
 counted_ending places delivered packets are le lt =
-    after_replies places delivered (packets ++ Finished ∷ []) le
+    after_replies places delivered packets (Finished ∷ []) are refl le
     ∙ ap (λ ps. replicate (2 * places) Accepted ++ ps)
-    (packets_whole packets (Finished ∷ []) (delivered - 8 * places) are refl
-    ∙ (ap (λ (is : List Item). take ((delivered - 8 * places) / 520) packets ++ is)
+    (ap (λ (is : List Item). take ((delivered - 8 * places) / 520) packets ++ is)
     (none_ended (delivered - 8 * places - 520 * length packets) (omega (arith, le, lt)))
-    ∙ append-nil (take ((delivered - 8 * places) / 520) packets)))
+    ∙ append-nil (take ((delivered - 8 * places) / 520) packets))
 
 pub counted_ended : (places delivered : ℕ) (packets : List Item) → ArePackets packets
     → 8 * places + 520 * length packets + 3 ≤ delivered
     → wholes delivered (replicate (2 * places) Accepted ++ (packets ++ Finished ∷ [])) ≡ replicate (2 * places)
     Accepted ++ (packets ++ Finished ∷ [])
 counted_ended places delivered packets are le =
-    after_replies places delivered (packets ++ Finished ∷ []) (omega (arith, le))
+    after_replies places delivered packets (Finished ∷ []) are refl (omega (arith, le))
     ∙ ap (λ ps. replicate (2 * places) Accepted ++ ps)
-    (packets_whole packets (Finished ∷ []) (delivered - 8 * places) are refl
-    ∙ (ap (λ (is : List Item). take ((delivered - 8 * places) / 520) packets ++ is)
+    (ap (λ (is : List Item). take ((delivered - 8 * places) / 520) packets ++ is)
     (one_ended (delivered - 8 * places - 520 * length packets) (omega (arith, le)))
     ∙ ap (λ (is : List Item). is ++ Finished ∷ [])
-    (take_all ((delivered - 8 * places) / 520) packets (omega (arith, le)))))
+    (take_all ((delivered - 8 * places) / 520) packets (omega (arith, le))))

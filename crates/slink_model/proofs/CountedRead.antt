@@ -4,14 +4,13 @@ use Rattle.std.proofs.Common.{append_assoc, length, length-append, take, drop, t
 use Rattle.std.proofs.Common.{slice_get, map}
 use Rattle.std.proofs.Math.Seq.{take-add}
 use Rattle.std.proofs.lemmas.List.{drop-drop, drop_at, length-take-le, take_at}
-use Rattle.slink_wire.specs.Lines.{IsHeld}
 use Rattle.slink_wire.specs.Place.{Fields, IsField}
 use Rattle.slink_feed.specs.declared.dialogue.Event.{Event}
 use Rattle.slink_feed.specs.declared.dialogue.Event.TheVariants as events
 use Rattle.slink_feed.specs.declared.dialogue.Stage.{Stage}
 use Rattle.slink_feed.specs.declared.dialogue.Stage.TheVariants.{Unlinked, Ended}
 use Rattle.slink_model.specs.Counted.{CountedLink, Gained, undelivered, delivered_by, events_upon, news, on_item, part}
-use Rattle.slink_model.specs.Counted.{talk_upon, wholes, with_event, with_events}
+use Rattle.slink_model.specs.Counted.{talk_upon, with_event, with_events}
 use Rattle.slink_feed.specs.Cutting.{IsBegun}
 use Rattle.slink_feed.specs.Dialogue.{Talk}
 use Rattle.slink_feed.specs.Listening.{Brought, IsLinked, bytes_of, events_of, talk_after}
@@ -19,9 +18,10 @@ use Rattle.slink_feed.specs.Serving.{SessionState}
 use Rattle.slink_model.specs.Spared.{IsSpared}
 use Rattle.slink_model.specs.Ties.{Item, Places, way_bytes}
 use Rattle.slink_model.specs.World.{Differ, IsRead, LinkState, Numbers, Taking, WorldState, taking}
-use Rattle.slink_model.proofs.Counted.{Left, Outcome, read_outcome}
+use Rattle.slink_model.proofs.Counted.{Heard, linked_heard, outcome}
+use Rattle.slink_feed.proofs.OneReading.{IsRest}
 use Rattle.slink_model.proofs.Counting.{after_cut, brought_of, drop_after, drop_on, kept_part, take_wholes}
-use Rattle.slink_model.proofs.Counts.{Counts, Pinned, pinned_as}
+use Rattle.slink_model.proofs.Counts.{Counts, Pinned}
 use Rattle.slink_model.proofs.Lined.{IsAnswered}
 use Rattle.slink_feed.proofs.OneReading.{one_brought}
 use Rattle.slink_model.proofs.ReadAll.{gained, read_all, linked_or, lost_all, rest_is}
@@ -51,12 +51,15 @@ unread t stage i is over = absurd (over tt)
 pub unlinked_upon : (t : Talk) (is : List Item) → ¬ (IsLinked t.stage)
     → (talk_upon t is ≡ t) × ((f : Numbers) (g : Gained) → with_events f (events_upon t is) g ≡ g)
 unlinked_upon t [] over = (refl, λ f g. refl)
-unlinked_upon t (i ∷ is) over =
-    let h : on_item t.stage i t ≡ (t, events.None) = unread t t.stage i refl over in
-    let more = unlinked_upon t is over in (
-      ap (λ (x : Talk × Event). talk_upon x.0 is) h ∙ more.0,
-      λ f g. ap (λ (x : Talk × Event). with_events f (events_upon x.0 is) (with_event f x.1 g)) h ∙ more.1 f g,
-    )
+unlinked_upon t (i ∷ is) over = rw (unread t t.stage i refl over) (unlinked_upon t is over)
+
+-- what comes of bytes beside the client, and of its link
+abbrev pub gains_of : WorldState → ℕ → CountedLink → Gained
+gains_of w n c = with_events c.first_sent (events_upon w.client.talk (news n c))
+    (record { held = w.held; start = w.start; to_server = c.written })
+
+abbrev pub now_counted : WorldState → ℕ → CountedLink → CountedLink
+now_counted w n c = record c { written = (gains_of w n c).to_server; delivered = delivered_by n c }
 
 module _ (places : Places) (differ : Differ places) (codes : (k : ℕ) (p : Fields × Option ℕ)
     → slice_get places k ≡ Some p → IsField 5 p.0.station × IsField 2 p.0.network) (w v : WorldState) (n : ℕ)
@@ -75,18 +78,14 @@ module _ (places : Places) (differ : Differ places) (codes : (k : ℕ) (p : Fiel
   abbrev before : List ℕ
   before = take c.taken c.written
 
-  abbrev pub gains : Gained
-  gains = with_events c.first_sent (events_upon w.client.talk (news n c))
-      (record { held = w.held; start = w.start; to_server = c.written })
-
-  abbrev pub now_counted : CountedLink
-  now_counted = record c { written = gains.to_server; delivered = delivered_by n c }
+  abbrev gains : Gained
+  gains = gains_of w n c
 
   pub record ReadCounts : Type 0 where
     pub talk : v.client.talk ≡ talk_upon w.client.talk (news n c)
     pub held : v.held ≡ gains.held
     pub start : v.start ≡ gains.start
-    pub counts : Counts places v.client now_counted m
+    pub counts : Counts places v.client (now_counted w n c) m
     pub keeps : IsBegun v.client.talk.stage v.client.kept
     pub called : AreCalled places v.client.talk.wants
     pub spared : IsSpared v.client.talk.stage
@@ -130,12 +129,8 @@ module _ (places : Places) (differ : Differ places) (codes : (k : ℕ) (p : Fiel
           to_client = h.left ∙ (ap (drop n) tie.to_client ∙ sym (drop_on (way_bytes c.sent) c.delivered n));
           taken_few = omega (arith, ap length written, length-append before m.to_server, long);
           delivered_few = omega arith;
-          held = subst (λ (s : SessionState). IsHeld s.held (take c.taken gains.to_server)) (sym h.session)
-              (subst (IsHeld l.session.held) (sym prefix) tie.held);
-          linked = λ there. rw (← state_is) at
-              (pinned_as places v.client l.session.state before (take c.taken gains.to_server) m.to_server m.to_server
-              m.to_client m.to_client (undelivered e its) (undelivered (delivered_by n c) c.sent) (sym prefix) refl refl
-              (sym (after_cut c.sent c.delivered n).1) (pinned there));
+          held = rw (h.session, prefix) tie.held;
+          linked = λ there. rw (state_is, prefix, (after_cut c.sent c.delivered n).1) (pinned there);
           quiet = λ over. rw prefix (quiet over);
         };
         keeps = keeps_now;
@@ -146,56 +141,42 @@ module _ (places : Places) (differ : Differ places) (codes : (k : ℕ) (p : Fiel
   -- while more is taken
   linked_read : IsLinked w.client.talk.stage → ReadCounts
   linked_read there =
-      let pin : Pinned places w.client l.session.state before l.to_server l.to_client its = tie.linked there in
+      let pin = tie.linked there in
+      let t : Talk = w.client.talk in
       let all : List ℕ = way_bytes its in
       let bs : List Brought = map brought_of (news n c) in
-      let rest : List ℕ = take (part e its) (way_bytes (undelivered e its)) in
-      let out : Outcome places differ codes l.session.state before l.to_server w.client.talk (wholes e its)
-      (undelivered e its) (part e its)
-      = read_outcome places differ codes l.session.state before l.to_server w.client.talk called_before its e
-      pin.flows.matched pin.flows.suited pin.ends pin.shakes in
+      let g : Gained = gained (taking w l) in
+      let left : List Item = undelivered e its in
+      let rest : List ℕ = take (part e its) (way_bytes left) in
+      let out = outcome places differ codes l.session.state before its l.to_server t e
+      (linked_heard places l.session.state before t l.to_server its there called_before pin.left) in
       let x = read_all l.first_sent (taking w l) (take n l.to_client) (taking v m) h.reads begun_before in
       let way : l.to_client ≡ drop p all = tie.to_client ∙ drop_after c.sent c.delivered in
       let kept = kept_part w.client.kept c.sent c.delivered
-      (ap (λ b. w.client.kept ++ b) (sym tie.to_client) ∙ pin.flows.flow) in
+      (ap (λ b. w.client.kept ++ b) (sym tie.to_client) ∙ pin.flow) in
       let stream : w.client.kept ++ take n l.to_client ≡ bytes_of bs ++ rest = ap (λ b. b ++ take n l.to_client) kept
       ∙ (ap (λ b. take p all ++ take n b) way ∙ (sym (take-add p n all) ∙ take_wholes its e)) in
       let all_is : w.client.kept ++ take n l.to_client ≡ bytes_of x.reads.brought ++ (v.client.kept ++ x.lost) =
       x.all_is ∙ (ap (λ b. b ++ x.lost) x.reads.bytes ∙ append_assoc (bytes_of x.reads.brought) v.client.kept x.lost) in
-      let one = one_brought w.client.talk x.reads.brought bs (v.client.kept ++ x.lost) rest x.reads.are_brought out.are
-      (sym all_is ∙ stream) (rest_is l.first_sent w.client.talk (gained (taking w l))
-      (w.client.kept ++ take n l.to_client) (taking v m) x) out.is_begun in
-      let talk : v.client.talk ≡ talk_after w.client.talk bs = x.reads.talk ∙ ap (talk_after w.client.talk) one.0 in
-      let g : gained (taking v m) ≡ with_events l.first_sent (events_of w.client.talk bs) (gained (taking w l)) =
-      x.gains ∙ ap (λ es. with_events l.first_sent es (gained (taking w l)))
-      (x.reads.events_are ∙ ap (events_of w.client.talk) one.0) in
-      let server : (with_events l.first_sent (events_of w.client.talk bs) (gained (taking w l))).to_server
-      ≡ m.to_server = sym (ap (λ (y : Gained). y.to_server) g) in
-      made (talk ∙ out.same.0) (g ∙ out.same.1 l.first_sent (gained (taking w l)))
+      let one = one_brought t x.reads.brought bs (v.client.kept ++ x.lost) rest x.reads.are_brought out.are
+      (sym all_is ∙ stream) (rest_is l.first_sent t g (w.client.kept ++ take n l.to_client) (taking v m) x)
+      (subst (λ (u : Talk). IsRest u.stage rest) (sym out.same.0) out.is_begun) in
+      let talk : v.client.talk ≡ talk_upon t (news n c) = x.reads.talk ∙ (ap (talk_after t) one.0 ∙ out.same.0) in
+      let now : gained (taking v m) ≡ with_events l.first_sent (events_upon t (news n c)) g =
+      x.gains ∙ (ap (λ es. with_events l.first_sent es g) (x.reads.events_are ∙ ap (events_of t) one.0)
+      ∙ out.same.1 l.first_sent g) in
+      let heard : Heard places l.session.state before v.client.talk m.to_server left =
+      rw (talk, ap (λ (y : Gained). y.to_server) now) (out.heard l.first_sent g refl) in
+      made talk now
       (λ on.
-      let left : Left places differ codes l.session.state before v.client.talk m.to_server (undelivered e its) =
-      rw (← talk) at
-      (subst (λ b. Left places differ codes l.session.state before (talk_after w.client.talk bs) b (undelivered e its))
-      server (out.after l.first_sent (gained (taking w l)) refl (subst (λ (t : Talk). IsLinked t.stage) talk on))) in
       let outputs_now : v.client.kept ≡ rest = sym (append-nil v.client.kept)
       ∙ (ap (λ b. v.client.kept ++ b) (sym (x.whole on)) ∙ one.1) in
-      let way_now : m.to_client ≡ drop (part e its) (way_bytes (undelivered e its)) =
-      h.left ∙ (ap (drop n) way ∙ (drop-drop n p all ∙ drop_after its e)) in
+      let way_now = h.left ∙ (ap (drop n) way ∙ (drop-drop n p all ∙ drop_after its e)) in
       record {
-        flows = record {
-          flow = ap (λ b. b ++ m.to_client) outputs_now
-              ∙ (ap (λ b. rest ++ b) way_now ∙ take-append-drop (part e its) (way_bytes (undelivered e its)));
-          matched = left.matched;
-          suited = left.suited;
-        };
-        shakes = left.shakes;
-        ends = left.ends;
-      })
-      (λ over. subst (IsAnswered before) server
-      (out.quiet l.first_sent (gained (taking w l)) refl
-      (λ on. over (subst (λ (t : Talk). IsLinked t.stage) (sym talk) on))))
-      x.reads.is_begun (subst (λ (t : Talk). AreCalled places t.wants) (sym talk) out.called)
-      (subst (λ (t : Talk). IsSpared t.stage) (sym talk) out.spared)
+        flow = ap (λ b. b ++ m.to_client) outputs_now
+            ∙ (ap (λ b. rest ++ b) way_now ∙ take-append-drop (part e its) (way_bytes left));
+        left = heard.left on;
+      }) (λ over. (heard.over over).1) x.reads.is_begun heard.called heard.spared
 
   -- and afterwards
   unlinked_read : ¬ (IsLinked w.client.talk.stage) → ReadCounts

@@ -1,38 +1,37 @@
 -- The counts of a link once a packet of it was requested.
 use Rattle.slink_model.proofs.Stations.{each_sent}
 use Rattle.slink_model.proofs.Sends.{by_sent}
-use Rattle.std.proofs.Common.{◌≡◌, ℕ, ◌+◌, ◌-◌, ◌%◌, ◌^◌, inl, inr, refl, sym, ap, subst, ◌∙◌, arith, Bool, true}
+use Rattle.std.proofs.Common.{◌≡◌, ℕ, ◌+◌, ◌-◌, ◌%◌, ◌^◌, refl, sym, ap, subst, ◌∙◌, arith, Bool, true}
 use Rattle.std.proofs.Common.{false, if◌then◌else◌, List, [], ◌∷◌, ◌++◌, append-nil, length, length-append, take}
-use Rattle.std.proofs.Common.{drop, Option, Some, None, slice_get, unwrap_or}
+use Rattle.std.proofs.Common.{Option, Some, None, slice_get, unwrap_or}
 use Rattle.std.proofs.lemmas.List.{drop-append-le}
 use Rattle.slink_wire.specs.Packet.{packet_bytes}
 use Rattle.slink_wire.specs.Place.{Bears, Fields}
 use Rattle.slink_feed.specs.declared.grant.Grant.{Grant}
 use Rattle.slink_feed.specs.declared.session.Phase.{Phase}
-use Rattle.slink_feed.specs.declared.session.Phase.TheVariants.{Fresh, Chosen, Granted, Streaming, Closed}
+use Rattle.slink_feed.specs.declared.session.Phase.TheVariants.{Streaming, Closed}
 use Rattle.slink_feed.specs.declared.session.Sent.{Sent}
 use Rattle.slink_feed.specs.declared.session.Sent.TheVariants as sents
 use Rattle.slink_model.specs.Counted.{CountedLink, undelivered, carried_at, items_sent, sent_by}
 use Rattle.slink_feed.specs.declared.dialogue.Stage.TheVariants.{Packets}
-use Rattle.slink_feed.specs.Dialogue.{Talk, next_at}
+use Rattle.slink_feed.specs.Dialogue.{next_at}
 use Rattle.slink_feed.specs.Listening.{Listening}
 use Rattle.slink_feed.specs.Session.{IsBefore, State, at, grant_at, packet_at, sent, sent_bytes}
 use Rattle.slink_model.specs.Ties.{AreSound, Item, Carried, Finished, Places, of_place, way_bytes}
 use Rattle.slink_feed.specs.Window.{Window, oldest_of, record_at}
 use Rattle.slink_model.specs.World.{LinkState, Numbers, first_after, sent_on}
 use Rattle.slink_model.proofs.Counting.{more_cut}
-use Rattle.slink_model.proofs.Counts.{Counts, EndsIn, Pinned, pinned_as}
+use Rattle.slink_model.proofs.Counts.{Counts}
+use Rattle.slink_model.proofs.Lined.{IsAnswered}
+use Rattle.slink_feed.specs.declared.dialogue.Stage.TheVariants.{Packets}
+use Rattle.slink_model.proofs.Items.{matched_more}
 use Rattle.slink_model.proofs.Items.{carries_none, flow_more, way_more}
 use Rattle.slink_feed.proofs.Items.{one_value}
 use Rattle.slink_model.proofs.Requested.{also_at}
 use Rattle.slink_model.proofs.Lined.{IsAnswered}
-use Rattle.slink_model.proofs.Shaking.{AreFrom, AreOfPlace, AreRinged, AreSent, IsSuited, Shakes, asks_end, asks_number}
-use Rattle.slink_model.proofs.Shaking.{asks_place, has_none, has_number, has_place, streams}
-
-matched_more : (places : Places) (xs ys : List Item) → AreOfPlace places xs → AreOfPlace places ys
-    → AreOfPlace places (xs ++ ys)
-matched_more places [] ys p q = q
-matched_more places (x ∷ xs) ys p q = (p.0, matched_more places xs ys p.1 q)
+use Rattle.slink_model.specs.Ties.{AreOfPlace}
+use Rattle.slink_model.proofs.Shaking.{AreFrom, AreRinged, AreSent, EndsIn, IsSuited, Left, streaming_is}
+use Rattle.slink_model.proofs.Shaking.{streams}
 
 sent_more : (xs ys : List Item) → AreSent xs → AreSent ys → AreSent (xs ++ ys)
 sent_more [] ys p q = q
@@ -54,30 +53,6 @@ suited_more want (Some f) g h rest r is next s =
       omega (arith, next, same, s.2, length-append rest ((g.position, r) ∷ [])),
       s.3,
     )
-
-before_no : (phase p : Phase) → phase ≡ p → IsBefore p → ¬ (IsBefore phase) → ⊥
-before_no phase p is before later = later (subst IsBefore (sym is) before)
-
--- packets are sent
-streaming_is : (talk : Talk) (phase : Phase) (taken way : List ℕ) (items : List Item) → ¬ (IsBefore phase)
-    → Shakes talk phase taken way items → (talk.stage ≡ Packets) × AreSent items
-    × IsAnswered taken way
-streaming_is talk phase taken way items later (asks_place k w stage want ready asks none) =
-    absurd (elim ready [
-      | inl fresh ↦ before_no phase Fresh fresh.1 tt later
-      | inr beyond ↦ before_no phase (Granted beyond.0) beyond.2 tt later
-    ])
-streaming_is talk phase taken way items later (has_place k stage is reported one) =
-    absurd (before_no phase (Chosen k) is tt later)
-streaming_is talk phase taken way items later (asks_number k stage is asks none) =
-    absurd (before_no phase (Chosen k) is tt later)
-streaming_is talk phase taken way items later (has_number k stage is reported one) =
-    absurd (before_no phase (Granted k) is tt later)
-streaming_is talk phase taken way items later (has_none k stage is reported one) =
-    absurd (before_no phase (Chosen k) is tt later)
-streaming_is talk phase taken way items later (asks_end k stage is asks none) =
-    absurd (before_no phase (Granted k) is tt later)
-streaming_is talk phase taken way items later (streams stage over sent reported) = (stage, sent, reported)
 
 -- a record of the window is one of the ring's
 window_sound : (w : Window) (n : ℕ) (r : List ℕ) → AreSound w.place w.records → record_at w n ≡ Some r
@@ -110,8 +85,7 @@ module _ (places : Places) (client : Listening) (feed : List Window) (ringed : A
   -- what is sent, with what the session comes to
   record Goes (x : State × Sent) (ys : List Item) : Type 0 where
     bytes : sent_bytes x.1 ≡ way_bytes ys
-    pinned : Pinned places client s before l.to_server l.to_client its
-        → Pinned places client x.0 before l.to_server (l.to_client ++ sent_bytes x.1) (its ++ ys)
+    left : Left places s before client.talk l.to_server its → Left places x.0 before client.talk l.to_server (its ++ ys)
 
   abbrev GoesOn : State × Sent → Type 0
   GoesOn x = Goes x (items_sent feed s.grants k x.1)
@@ -119,28 +93,26 @@ module _ (places : Places) (client : Listening) (feed : List Window) (ringed : A
   nothing_sent : (o : Sent) → sent_bytes o ≡ [] → items_sent feed s.grants k o ≡ [] → GoesOn (s, o)
   nothing_sent o none nothing = record {
     bytes = none ∙ ap way_bytes (sym nothing);
-    pinned = pinned_as places client s before before l.to_server l.to_server l.to_client (l.to_client ++ sent_bytes o)
-        its (its ++ items_sent feed s.grants k o) refl refl
-        (sym (ap (λ b. l.to_client ++ b) none ∙ append-nil l.to_client))
+    left = subst (Left places s before client.talk l.to_server)
         (sym (ap (λ ys. its ++ ys) nothing ∙ append-nil its));
   }
+
+  streaming : Left places s before client.talk l.to_server its → s.phase ≡ Streaming
+      → (client.talk.stage ≡ Packets) × AreSent its × IsAnswered before l.to_server
+  streaming left phase =
+      streaming_is client.talk s.phase before l.to_server its (λ b. subst IsBefore phase b) left.shakes
 
   shut : (o : Sent) (ys : List Item) → s.phase ≡ Streaming → sent_bytes o ≡ way_bytes ys → AreOfPlace places ys
       → AreSent ys → ((i : ℕ) → of_place i ys ≡ []) → EndsIn Closed ys → Goes (at Closed s.grants, o) ys
   shut o ys phase bytes matched sent none ends = record {
     bytes = bytes;
-    pinned = λ pin.
-        let now = streaming_is client.talk s.phase before l.to_server its (λ b. subst IsBefore phase b) pin.shakes in
-        record {
-          flows = record {
-            flow = flow_more client.kept l.to_client (sent_bytes o) its ys bytes pin.flows.flow;
-            matched = matched_more places its ys pin.flows.matched matched;
-            suited = λ i. subst (IsSuited (next_at client.talk.wants i) (grant_at s.grants i))
-                (sym (carries_none i its ys (none i))) (pin.flows.suited i);
-          };
-          shakes = streams now.0 (λ b. b) (sent_more its ys now.1 sent) now.2;
-          ends = ends_more Closed its ys (subst (λ p. EndsIn p its) phase pin.ends) ends;
-        };
+    left = λ left. let now = streaming left phase in record {
+      matched = matched_more places its ys left.matched matched;
+      suited = λ i. subst (IsSuited (next_at client.talk.wants i) (grant_at s.grants i))
+          (sym (carries_none i its ys (none i))) (left.suited i);
+      shakes = streams now.0 (λ b. b) (sent_more its ys now.1 sent) now.2;
+      ends = ends_more Closed its ys (subst (λ p. EndsIn p its) phase left.ends) ends;
+    };
   }
 
   record_goes : (g : Grant) (w : Window) (r : List ℕ) → s.phase ≡ Streaming → grant_at s.grants k ≡ Some g
@@ -149,30 +121,19 @@ module _ (places : Places) (client : Listening) (feed : List Window) (ringed : A
   record_goes g w r phase grant here is =
       let h : Grant = record { mode = g.mode; position = g.position + 1 } in
       let item : List Item = Carried k g.position r ∷ [] in
-      let p : (p : Fields × Option ℕ) × (slice_get places k ≡ Some p) × (w.place ≡ p.0) =
-      also_at (λ (v : Window). v.place) (λ (q : Fields × Option ℕ). q.0) (slice_get feed k) (slice_get places k) w
-      (ringed.alike k) here in
+      let p = also_at (λ (v : Window). v.place) (λ (q : Fields × Option ℕ). q.0) (slice_get feed k) (slice_get places k)
+      w (ringed.alike k) here in
       let sound : (length r ≡ 512) × Bears r w.place = window_sound w g.position r (ringed.sound k w here) is in
       record {
         bytes = sym (append-nil (packet_bytes (g.position % 2 ^ 24) r));
-        pinned = λ pin.
-            let now = streaming_is client.talk s.phase before l.to_server its (λ b. subst IsBefore phase b) pin.shakes
-            in
-            record {
-              flows = record {
-                flow = flow_more client.kept l.to_client (packet_bytes (g.position % 2 ^ 24) r) its item
-                    (sym (append-nil (packet_bytes (g.position % 2 ^ 24) r))) pin.flows.flow;
-                matched = matched_more places its item pin.flows.matched (
-                  (p.0, p.1, sound.0, subst (Bears r) p.2 sound.1),
-                  tt,
-                );
-                suited = each_sent s k g r its (λ i o is. IsSuited (next_at client.talk.wants i) o is) grant
-                    (suited_more (next_at client.talk.wants k) (grant_at s.grants k) g h (of_place k its) r grant refl
-                    (pin.flows.suited k)) (λ i ne. pin.flows.suited i);
-              };
-              shakes = streams now.0 (λ b. subst IsBefore phase b) (sent_more its item now.1 (tt, tt)) now.2;
-              ends = ends_more s.phase its item (subst (λ p. EndsIn p its) phase pin.ends) tt;
-            };
+        left = λ left. let now = streaming left phase in record {
+          matched = matched_more places its item left.matched ((p.0, p.1, sound.0, subst (Bears r) p.2 sound.1), tt);
+          suited = each_sent s k g r its (λ i o is. IsSuited (next_at client.talk.wants i) o is) grant
+              (suited_more (next_at client.talk.wants k) (grant_at s.grants k) g h (of_place k its) r grant refl
+              (left.suited k)) (λ i ne. left.suited i);
+          shakes = streams now.0 (λ b. subst IsBefore phase b) (sent_more its item now.1 (tt, tt)) now.2;
+          ends = ends_more s.phase its item (subst (λ p. EndsIn p its) phase left.ends) tt;
+        };
       }
 
   -- the packet's item
@@ -189,13 +150,6 @@ module _ (places : Places) (client : Listening) (feed : List Window) (ringed : A
   abbrev ys : List Item
   ys = items_sent feed s.grants k (sent feed s k).1
 
-  abbrev by_state : State → CountedLink
-  by_state st = record c {
-    session = (sent feed st k).0;
-    first_sent = first_after c.first_sent st.grants k (sent feed st k).1;
-    sent = c.sent ++ items_sent feed st.grants k (sent feed st k).1;
-  }
-
   pub sent_counts : Counts places client (sent_by feed k c) (sent_on feed k l)
   sent_counts =
       let go : Goes x ys = by_sent feed s k GoesOn (nothing_sent sents.Wait refl refl)
@@ -203,14 +157,12 @@ module _ (places : Places) (client : Listening) (feed : List Window) (ringed : A
       (λ phase. shut sents.Done (Finished ∷ []) phase refl (tt, tt) (tt, tt) (λ i. refl) (refl, refl))
       (λ g w r phase grant here is. subst (Goes (packet_at s k g (Some r))) (sym (item_is g w r grant here is))
       (record_goes g w r phase grant here is)) in
-      subst (λ (st : State). Counts places client (by_state st) (sent_on feed k l)) counts.session (record {
+      rw (← counts.session) (record {
         session = refl;
         first_sent = ap (λ (f : Numbers). first_after f s.grants k x.1) counts.first_sent;
         to_server = counts.to_server;
-        to_client = ap (λ b. b ++ sent_bytes x.1) counts.to_client
-            ∙ (ap (λ b. drop c.delivered (way_bytes c.sent) ++ b) go.bytes
-            ∙ (sym (drop-append-le c.delivered (way_bytes c.sent) (way_bytes ys) counts.delivered_few)
-            ∙ ap (drop c.delivered) (sym (way_more c.sent ys))));
+        to_client = rw (counts.to_client, go.bytes, way_more c.sent ys)
+            (sym (drop-append-le c.delivered (way_bytes c.sent) (way_bytes ys) counts.delivered_few));
         taken_few = counts.taken_few;
         delivered_few = omega (
           arith,
@@ -219,10 +171,9 @@ module _ (places : Places) (client : Listening) (feed : List Window) (ringed : A
           length-append (way_bytes c.sent) (way_bytes ys),
         );
         held = counts.held;
-        linked = λ there. pinned_as places client x.0 before before l.to_server l.to_server
-            (l.to_client ++ sent_bytes x.1) (l.to_client ++ sent_bytes x.1) (its ++ ys)
-            (undelivered c.delivered (c.sent ++ ys))
-            refl refl refl (sym (more_cut c.sent ys c.delivered counts.delivered_few).1)
-            (go.pinned (counts.linked there));
+        linked = λ there. rw (more_cut c.sent ys c.delivered counts.delivered_few).1 (record {
+          flow = flow_more client.kept l.to_client (sent_bytes x.1) its ys go.bytes (counts.linked there).flow;
+          left = go.left (counts.linked there).left;
+        });
         quiet = counts.quiet;
       })

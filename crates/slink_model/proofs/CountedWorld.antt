@@ -1,13 +1,10 @@
 -- The world that the steps of a schedule lead to is the counted one.
 use Rattle.slink_model.proofs.Pushed.{Rings, opening_rings, ring_at, ringed, rings_next}
-use Rattle.slink_feed.specs.declared.dialogue.Event.TheVariants as events
 use Rattle.std.proofs.lemmas.List.{length-map}
-use Rattle.std.proofs.Common.{length-set, get_or}
 use Rattle.slink_model.specs.Counted.{with_event, with_events, events_upon}
-use Rattle.std.proofs.Common.{take, ◌≡◌, ℕ, ◌-◌, ◌<◌, zero, suc, refl, sym, ap, subst, ◌∙◌, arith, List, []}
-use Rattle.std.proofs.Common.{◌∷◌, ◌++◌, length, map, replicate, Option, Some, None}
-use Rattle.std.proofs.Common.{option_map, slice_get, inl}
-use Rattle.slink_wire.specs.Place.{Fields, IsField}
+use Rattle.std.proofs.Common.{take, ◌≡◌, ℕ, ◌-◌, ◌<◌, refl, sym, ap, subst, ◌∙◌, arith, List, []}
+use Rattle.std.proofs.Common.{◌∷◌, ◌++◌, length, replicate, Option, Some, None}
+use Rattle.std.proofs.Common.{option_map, inl}
 use Rattle.slink_wire.specs.Request.{request_bytes, request_line}
 use Rattle.slink_feed.specs.declared.dialogue.Event.{Event}
 use Rattle.slink_feed.specs.declared.dialogue.Stage.TheVariants.{Station}
@@ -16,30 +13,27 @@ use Rattle.slink_model.specs.declared.world.Setup.{Setup}
 use Rattle.slink_model.specs.declared.world.Step.{Step}
 use Rattle.slink_model.specs.declared.world.Step.TheVariants.{Append, Connect, ToServer, ToClient, Send, Cut}
 use Rattle.slink_model.specs.Counted.{AreCountedLinks, AreStreamed, undelivered, Counted, CountedLink, IsCounted}
-use Rattle.slink_model.specs.Counted.{IsCountedLink, counted_after, counted_opening, counted_step, read_by}
-use Rattle.slink_model.specs.Counted.{new_link, news, sent_by, served_by, talk_upon, Gained}
+use Rattle.slink_model.specs.Counted.{counted_after, counted_opening, counted_step, read_by}
+use Rattle.slink_model.specs.Counted.{new_link, news, sent_by, served_by, Gained}
 use Rattle.slink_model.specs.Counted.{part}
-use Rattle.slink_feed.specs.Dialogue.{Talk, to_place, want_at, wanted_of, wants_of}
+use Rattle.slink_feed.specs.Dialogue.{Talk, wants_of}
 use Rattle.slink_feed.specs.Listening.{Listening, IsLinked}
 use Rattle.slink_feed.specs.Session.{State, at, grant_at}
-use Rattle.slink_model.specs.Spared.{AreAskable, IsSpared}
+use Rattle.slink_model.specs.Spared.{AreAskable, HaveCodes, IsSpared}
 use Rattle.slink_model.specs.Slice.{IsSchedule, IsSound}
 use Rattle.slink_model.specs.Ties.{Places, way_bytes}
-use Rattle.slink_feed.specs.Window.{Window}
 use Rattle.slink_model.specs.World.{AllHappen, Both, Connects, Differ, Happens, IsRead, IsOf, IsServed, LinkState}
-use Rattle.slink_model.specs.World.{Lists, Numbers, WorldState, opening, pushed_to, written, sent_on}
-use Rattle.slink_model.proofs.CountedRead.{ReadCounts, gains, read_counts, now_counted}
+use Rattle.slink_model.specs.World.{Numbers, WorldState, opening, written, sent_on}
+use Rattle.slink_model.proofs.CountedRead.{read_counts, now_counted}
 use Rattle.slink_model.proofs.CountedSent.{sent_counts}
 use Rattle.slink_model.proofs.CountedShape.{AreFacts, AreShaped, step_shaped, streamed_of}
 use Rattle.slink_model.proofs.Counting.{kept_part}
-use Rattle.slink_model.proofs.Counts.{Counts, served_counts, Pinned}
+use Rattle.slink_model.proofs.Counts.{Counts, served_counts}
+use Rattle.slink_model.proofs.Counted.{wide_event}
 use Rattle.slink_feed.proofs.Items.{within_is}
-use Rattle.slink_model.proofs.Requested.{also_at}
-use Rattle.slink_model.proofs.Shaking.{AreCalled}
-use Rattle.slink_model.proofs.Shaking.{asks_place}
-use Rattle.slink_model.proofs.Worlds.{none_wanted}
+use Rattle.slink_model.proofs.Shaking.{AreCalled, asks, asks_place, fields_at, want_of}
+use Rattle.slink_model.proofs.Worlds.{opening_alike}
 use Rattle.slink_model.proofs.Pushed.{AreOf, each_of}
-use Rattle.slink_feed.specs.declared.dialogue.Wanted.{Wanted}
 use Rattle.slink_feed.specs.Serving.{SessionState}
 use Rattle.slink_feed.proofs.Fitting.{none_at}
 use Rattle.slink_model.proofs.Lined.{begins_asking}
@@ -60,17 +54,7 @@ linked_anew w session x = record w {
   link = Some (record { session = session; first_sent = replicate 16 None; to_server = written x.1; to_client = [] });
 }
 
-beside_as : (w : WorldState) (q : Option CountedLink) (talk : Talk) (held : Lists) (start : Numbers)
-    → w.client.talk ≡ talk → w.held ≡ held → w.start ≡ start
-    → record { pushed = w.pushed; talk = talk; held = held; start = start; link = q } ≡ beside w q
-beside_as w q talk held start a b c =
-    λ i. record { pushed = w.pushed; talk = sym a i; held = sym b i; start = sym c i; link = q }
-
 -- there stays a list for each station
-pub wide_event : (f : Numbers) (e : Event) (g : Gained) → length (with_event f e g).held ≡ length g.held
-wide_event f (events.Record k n bytes) g = length-set g.held k (get_or g.held k [] ++ bytes ∷ [])
-wide_event f event g = refl
-
 wide_events : (f : Numbers) (es : List Event) (g : Gained) → length (with_events f es g).held ≡ length g.held
 wide_events f [] g = refl
 wide_events f (e ∷ es) g = wide_events f es (with_event f e g) ∙ wide_event f e g
@@ -84,8 +68,7 @@ wide_step : (setup : Setup) (c : Counted) (step : Step) → length (counted_step
 wide_step setup c (ToClient n) = wide_read n c c.link
 wide_step setup c step = refl
 
-module _ (setup : Setup) (differ : Differ setup.places.items) (codes_are : (k : ℕ) (p : Fields × Option ℕ)
-    → slice_get setup.places.items k ≡ Some p → IsField 5 p.0.station × IsField 2 p.0.network) where
+module _ (setup : Setup) (differ : Differ setup.places.items) (codes_are : HaveCodes setup.places.items) where
   abbrev pub places : Places
   places = setup.places.items
 
@@ -95,11 +78,9 @@ module _ (setup : Setup) (differ : Differ setup.places.items) (codes_are : (k : 
     pub spared : IsSpared client.talk.stage
     pub keeps : IsBegun client.talk.stage client.kept
 
-  abbrev pub AreCounts : Listening → Option CountedLink → Option LinkState → Type 0
-  AreCounts client None None = Unit {0}
-  AreCounts client None (Some l) = ⊥
-  AreCounts client (Some c) None = ⊥
-  AreCounts client (Some c) (Some l) = Counts places client c l
+  pub data AreCounts (client : Listening) : Option CountedLink → Option LinkState → Type 0 where
+    no_link : AreCounts client None None
+    a_link : (c : CountedLink) (l : LinkState) → Counts places client c l → AreCounts client (Some c) (Some l)
 
   -- the counted world of a world
   pub record IsWorld (c : Counted) (w : WorldState) : Type 0 where
@@ -109,174 +90,120 @@ module _ (setup : Setup) (differ : Differ setup.places.items) (codes_are : (k : 
 
   pub link_at : (client : Listening) (q : Option CountedLink) (l : LinkState) → AreCounts client q (Some l)
       → (c : CountedLink) × (q ≡ Some c) × Counts places client c l
-  link_at client None l k = absurd k
-  link_at client (Some c) l k = (c, refl, k)
+  link_at client q l (a_link c m k) = (c, refl, k)
 
   -- Connect
   connect_world : (w v : WorldState) (q : Option CountedLink) → 0 < length places → Connects w v
       → Stands w.client → IsWorld (counted_step setup (beside w q) Connect) v
   connect_world w v q some c t =
       let talk : Talk = w.client.talk in
-      let p : (p : Fields × Option ℕ) × (slice_get places 0 ≡ Some p) = within_is places 0 some in
-      let first : (x : Wanted) × (want_at talk.wants 0 ≡ Some x) × (p.0.0 ≡ x.place) =
-      also_at (λ (x : Fields × Option ℕ). x.0) (λ (x : Wanted). x.place) (slice_get places 0)
-      (want_at talk.wants 0) p.0 (sym (t.called.alike 0)) p.1 in
-      let fields : IsField 5 first.0.place.station × IsField 2 first.0.place.network =
-      subst (λ (f : Fields). IsField 5 f.station × IsField 2 f.network) first.2 (codes_are 0 p.0 p.1) in
+      let p = within_is places 0 some in
+      let first = want_of places talk.wants t.called 0 p.0 p.1 in
+      let fields = fields_at places talk.wants codes_are t.called 0 first.0 first.1 in
       let state : c.session.state ≡ at Fresh (replicate 16 None) = c.is_new.state in
       let bytes : List ℕ = request_bytes (requests.Station first.0.place) in
-      let link : LinkState = record {
-        session = c.session;
-        first_sent = replicate 16 None;
-        to_server = bytes;
-        to_client = [];
-      } in
-      let counts : Counts places (record { talk = record talk { stage = Station 0 }; kept = [] }) (new_link bytes)
-      link =
-      record {
-        session = state;
-        first_sent = refl;
-        to_server = refl;
-        to_client = refl;
-        taken_few = omega arith;
-        delivered_few = omega arith;
-        held = c.is_new.held;
-        linked = λ _. record {
-          flows = record {
-            flow = refl;
-            matched = tt;
-            suited = λ k. rw (ap (λ (s : State). grant_at s.grants k) state ∙ none_at 16 k) refl;
-          };
-          shakes = asks_place 0 first.0 refl first.1 (inl (refl, ap (λ (s : State). s.phase) state))
-              (begins_asking (request_line (requests.Station first.0.place))
-              (station_line first.0.place fields.0 fields.1)) refl;
-          ends = tt;
-        };
-        quiet = λ over. absurd (over tt);
-      } in
-      let done : IsWorld (record (beside w q) {
-        talk = (to_place (Some first.0) 0 talk).0;
-        link = Some (new_link (written (to_place (Some first.0) 0 talk).1));
-      }) (linked_anew w c.session (to_place (Some first.0) 0 talk)) =
-      record {
+      let none : Numbers = replicate 16 None in
+      let link : LinkState = record { session = c.session; first_sent = none; to_server = bytes; to_client = [] } in
+      rw (c.becomes, first.1) (record {
         is = refl;
-        stands = record {
-          called = t.called;
-          spared = tt;
-          keeps = begun_none (Station 0);
-        };
-        counts = counts;
-      } in
-      subst (IsWorld (counted_step setup (beside w q) Connect)) (sym c.becomes)
-      (subst (λ (x : Talk × Event). IsWorld (record (beside w q) { talk = x.0; link = Some (new_link (written x.1)) })
-      (linked_anew w c.session x)) (sym (ap (λ (o : Option Wanted). to_place o 0 talk) first.1)) done)
+        stands = record { called = t.called; spared = tt; keeps = begun_none (Station 0) };
+        counts = a_link (new_link bytes) link (record {
+          session = state;
+          first_sent = refl;
+          to_server = refl;
+          to_client = refl;
+          taken_few = omega arith;
+          delivered_few = omega arith;
+          held = c.is_new.held;
+          linked = λ _. record {
+            flow = refl;
+            left = record {
+              matched = tt;
+              suited = λ k. rw (ap (λ (s : State). grant_at s.grants k) state ∙ none_at 16 k) refl;
+              shakes = asks (requests.Station first.0.place)
+                  (asks_place 0 first.0 refl first.1 (inl (refl, ap (λ (s : State). s.phase) state)))
+                  (begins_asking (request_line (requests.Station first.0.place))
+                  (station_line first.0.place fields.0 fields.1)) refl;
+              ends = tt;
+            };
+          };
+          quiet = λ over. absurd (over tt);
+        });
+      })
 
   -- ToServer
   served_links : (w : WorldState) (n : ℕ) (q : Option CountedLink) (o p : Option LinkState)
       → Rings setup w → Stands w.client
       → AreCounts w.client q o → Both (IsServed w.windows n) o p
       → AreCounts w.client (option_map (served_by w.windows w.client.talk n) q) p
-  served_links w n None None None r t counts s = tt
-  served_links w n None None (Some m) r t counts s = absurd s
-  served_links w n None (Some l) p r t counts s = absurd counts
-  served_links w n (Some c) None p r t counts s = absurd counts
-  served_links w n (Some c) (Some l) None r t counts s = absurd s
-  served_links w n (Some c) (Some l) (Some m) r t counts s =
-      served_counts places differ codes_are w.client t.called w.windows (ringed setup w r) n l m s c counts
+  served_links w n q o None r t no_link s = no_link
+  served_links w n q o (Some m) r t no_link s = absurd s
+  served_links w n q o None r t (a_link c l counts) s = absurd s
+  served_links w n q o (Some m) r t (a_link c l counts) s =
+      a_link _ _ (served_counts places differ codes_are w.client t.called w.windows (ringed setup w r) n l m s c counts)
 
   -- Send
   sent_links : (w : WorldState) (k : ℕ) (q : Option CountedLink) (o : Option LinkState)
       → Rings setup w → Stands w.client
       → AreCounts w.client q o
       → AreCounts w.client (option_map (sent_by w.windows k) q) (option_map (sent_on w.windows k) o)
-  sent_links w k None None r t counts = tt
-  sent_links w k None (Some l) r t counts = absurd counts
-  sent_links w k (Some c) None r t counts = absurd counts
-  sent_links w k (Some c) (Some l) r t counts = sent_counts places w.client w.windows (ringed setup w r) l c counts k
+  sent_links w k q o r t no_link = no_link
+  sent_links w k q o r t (a_link c l counts) =
+      a_link _ _ (sent_counts places w.client w.windows (ringed setup w r) l c counts k)
 
   -- ToClient
   read_world : (w v : WorldState) (n : ℕ) (q : Option CountedLink) (o p : Option LinkState)
       → Stands w.client → v.pushed ≡ w.pushed → w.link ≡ o
       → v.link ≡ p → Both (IsRead n w v) o p → (w.link ≡ None → v ≡ w)
       → AreCounts w.client q o → IsWorld (read_by n (beside w q) q) v
-  read_world w v n None None p t pushed was now h unlinked counts =
+  read_world w v n q o p t pushed was now h unlinked no_link =
       subst (IsWorld (beside w None)) (sym (unlinked was))
-      (record { is = refl; stands = t; counts = subst (AreCounts w.client None) (sym was) tt })
-  read_world w v n None (Some l) p t pushed was now h unlinked counts = absurd counts
-  read_world w v n (Some c) None p t pushed was now h unlinked counts = absurd counts
-  read_world w v n (Some c) (Some l) None t pushed was now h unlinked counts = absurd h
-  read_world w v n (Some c) (Some l) (Some m) t pushed was now h unlinked counts =
-      let r : ReadCounts places differ codes_are w v n l m c counts h t.keeps t.called t.spared =
-      read_counts places differ codes_are w v n l m c counts h t.keeps t.called t.spared in
-      let d : CountedLink = now_counted places differ codes_are w v n l m c counts h t.keeps t.called t.spared in
-      let g : Gained = gains places differ codes_are w v n l m c counts h t.keeps t.called t.spared in
-      let talk : Talk = talk_upon w.client.talk (news n c) in
+      (record { is = refl; stands = t; counts = subst (AreCounts w.client None) (sym was) no_link })
+  read_world w v n q o None t pushed was now h unlinked (a_link c l counts) = absurd h
+  read_world w v n q o (Some m) t pushed was now h unlinked (a_link c l counts) =
+      let r = read_counts places differ codes_are w v n l m c counts h t.keeps t.called t.spared in
       record {
-        is = ap (λ (x : Lists). record { pushed = x; talk = talk; held = g.held; start = g.start; link = Some d })
-            (sym pushed) ∙ beside_as v (Some d) talk g.held g.start r.talk r.held r.start;
-        stands = record {
-          called = r.called;
-          spared = r.spared;
-          keeps = r.keeps;
-        };
-        counts = subst (AreCounts v.client (Some d)) (sym now) r.counts;
+        is = rw (pushed, r.talk, r.held, r.start) refl;
+        stands = record { called = r.called; spared = r.spared; keeps = r.keeps };
+        counts = rw now (a_link (now_counted w n c) m r.counts);
       }
 
   step_world : (w v : WorldState) (step : Step) (q : Option CountedLink) → 0 < length places → IsOf places step
       → Happens w step v → Rings setup w → Stands w.client → AreCounts w.client q w.link
       → IsWorld (counted_step setup (beside w q) step) v
   step_world w v (Append k b) q some of h r t counts =
-      subst (IsWorld (counted_step setup (beside w q) (Append k b))) (sym h)
-      (subst (λ (o : Option Window). IsWorld (counted_step setup (beside w q) (Append k b)) (pushed_to w k b o))
-      (sym (ring_at setup w k of.0 r.shown of.1)) (record { is = refl; stands = t; counts = counts }))
+      rw (h, ring_at setup w k of.0 r.shown of.1) (record { is = refl; stands = t; counts = counts })
   step_world w v Connect q some of h r t counts = connect_world w v q some h t
   step_world w v (ToServer n) q some of h r t counts =
-      subst (IsWorld (counted_step setup (beside w q) (ToServer n))) (sym h.0) (record {
-        is = refl;
-        stands = t;
-        counts = subst (λ (ws : List Window). AreCounts w.client (option_map (served_by ws w.client.talk n) q) v.link)
-            r.shown.windows (served_links w n q w.link v.link r t counts h.1);
-      })
+      let links = served_links w n q w.link v.link r t counts h.1 in
+      rw h.0 (record { is = refl; stands = t; counts = rw (← r.shown.windows) links })
   step_world w v (ToClient n) q some of h r t counts =
       read_world w v n q w.link v.link t h.pushed refl refl h.link h.unlinked counts
   step_world w v (Send k) q some of h r t counts =
-      subst (IsWorld (counted_step setup (beside w q) (Send k))) (sym h) (record {
-        is = refl;
-        stands = t;
-        counts = subst (λ (ws : List Window). AreCounts w.client (option_map (sent_by ws k) q)
-            (option_map (sent_on w.windows k) w.link)) r.shown.windows (sent_links w k q w.link r t counts);
-      })
+      let links = sent_links w k q w.link r t counts in
+      rw h (record { is = refl; stands = t; counts = rw (← r.shown.windows) links })
   step_world w v Cut q some of h r t counts =
-      subst (IsWorld (counted_step setup (beside w q) Cut)) (sym h) (record { is = refl; stands = t; counts = tt })
+      subst (IsWorld (counted_step setup (beside w q) Cut)) (sym h) (record { is = refl; stands = t; counts = no_link })
 
   pub next_world : (w v : WorldState) (c : Counted) (step : Step) → 0 < length places → IsOf places step
       → Happens w step v → Rings setup w → IsWorld c w → IsWorld (counted_step setup c step) v
   next_world w v c step some of h r i =
-      subst (λ (x : Counted). IsWorld (counted_step setup x step) v) (sym i.is)
-      (step_world w v step c.link some of h r i.stands i.counts)
+      rw i.is (step_world w v step c.link some of h r i.stands i.counts)
 
   -- what is known of its link
   facts_beside : (client : Listening) (q : Option CountedLink) (o : Option LinkState) → AreCounts client q o
       → AreFacts places client.talk q
-  facts_beside client None None k = tt
-  facts_beside client None (Some l) k = absurd k
-  facts_beside client (Some c) None k = absurd k
-  facts_beside client (Some c) (Some l) k = λ linked.
-      let pin : Pinned places client l.session.state (take c.taken c.written) l.to_server l.to_client
-      (undelivered c.delivered c.sent) = k.linked linked in
-      record {
-        phase = l.session.state.phase;
-        taken = take c.taken c.written;
-        way = l.to_server;
-        shakes = pin.shakes;
-        matched = pin.flows.matched;
-        ends = pin.ends;
-        few = k.delivered_few;
-      }
+  facts_beside client q o no_link = tt
+  facts_beside client q o (a_link c l k) = λ linked. record {
+    s = l.session.state;
+    taken = take c.taken c.written;
+    way = l.to_server;
+    left = (k.linked linked).left;
+    few = k.delivered_few;
+  }
 
   pub facts_of : (c : Counted) (w : WorldState) → IsWorld c w → AreFacts places c.talk c.link
-  facts_of c w i = subst (λ (x : Counted). AreFacts places x.talk x.link) (sym i.is)
-      (facts_beside w.client c.link w.link i.counts)
+  facts_of c w i = rw i.is (facts_beside w.client c.link w.link i.counts)
 
   pub called_of : (c : Counted) (w : WorldState) → IsWorld c w → AreCalled places c.talk.wants
   called_of c w i = subst (λ (x : Counted). AreCalled places x.talk.wants) (sym i.is) i.stands.called
@@ -286,7 +213,7 @@ module _ (setup : Setup) (differ : Differ setup.places.items) (codes_are : (k : 
     pub rings : Rings setup w
     pub world : IsWorld c w
     pub wide : length c.held ≡ length places
-    pub shaped : AreShaped places c
+    pub shaped : AreShaped places differ codes_are c
 
   pub next_at : (w v : WorldState) (c : Counted) (step : Step) → 0 < length places → IsOf places step
       → IsSound step → Happens w step v → IsAt c w → IsAt (counted_step setup c step) v
@@ -294,7 +221,8 @@ module _ (setup : Setup) (differ : Differ setup.places.items) (codes_are : (k : 
     rings = rings_next setup w v step of sound h a.rings;
     world = next_world w v c step some of h a.rings a.world;
     wide = wide_step setup c step ∙ a.wide;
-    shaped = step_shaped setup c step some (called_of c w a.world) a.wide (facts_of c w a.world) a.shaped;
+    shaped = step_shaped setup differ codes_are c step some (called_of c w a.world) a.wide (facts_of c w a.world)
+        a.shaped;
   }
 
   pub all_at : (steps : List Step) (w v : WorldState) (c : Counted) (run : AllHappen w steps v) → 0 < length places
@@ -309,11 +237,12 @@ module _ (setup : Setup) (differ : Differ setup.places.items) (codes_are : (k : 
       → IsLinked client.talk.stage
       → client.kept ≡ take (part c.delivered c.sent) (way_bytes (undelivered c.delivered c.sent))
   kept_counted client c l k there = kept_part client.kept c.sent c.delivered
-      (ap (λ b. client.kept ++ b) (sym k.to_client) ∙ (k.linked there).flows.flow)
+      (ap (λ b. client.kept ++ b) (sym k.to_client) ∙ (k.linked there).flow)
 
-  link_counted : (client : Listening) (c : CountedLink) (l : LinkState) → Counts places client c l
-      → IsCountedLink client.talk client.kept c l
-  link_counted client c l k = record {
+  links_counted : (client : Listening) (q : Option CountedLink) (o : Option LinkState) → AreCounts client q o
+      → AreCountedLinks client.talk client.kept q o
+  links_counted client q o no_link = tt
+  links_counted client q o (a_link c l k) = record {
     session = k.session;
     begun = k.held;
     first_sent = k.first_sent;
@@ -323,13 +252,6 @@ module _ (setup : Setup) (differ : Differ setup.places.items) (codes_are : (k : 
     taken_few = k.taken_few;
     delivered_few = k.delivered_few;
   }
-
-  links_counted : (client : Listening) (q : Option CountedLink) (o : Option LinkState) → AreCounts client q o
-      → AreCountedLinks client.talk client.kept q o
-  links_counted client None None k = tt
-  links_counted client None (Some l) k = absurd k
-  links_counted client (Some c) None k = absurd k
-  links_counted client (Some c) (Some l) k = link_counted client c l k
 
   is_counted : (c : Counted) (w : WorldState) → Rings setup w → IsWorld c w → IsCounted setup c w
   is_counted c w r i = subst (λ (x : Counted). IsCounted setup x w) (sym i.is) (record {
@@ -342,13 +264,6 @@ module _ (setup : Setup) (differ : Differ setup.places.items) (codes_are : (k : 
   })
 
 -- before the first step
-opening_alike : (ps : Places) (m k : ℕ)
-    → option_map (λ (x : Wanted). x.place) (want_at (map wanted_of ps ++ replicate m None) k) ≡ option_map
-    (λ (p : Fields × Option ℕ). p.0) (slice_get ps k)
-opening_alike [] m k = ap (option_map (λ (x : Wanted). x.place)) (none_wanted m k)
-opening_alike (p ∷ ps) m zero = refl
-opening_alike (p ∷ ps) m (suc k) = opening_alike ps m k
-
 pub opening_world : (setup : Setup) (steps : List Step) (is : IsSchedule setup steps)
     (askable : AreAskable setup.places.items)
     → IsWorld setup is.differ askable.codes (counted_opening setup) (opening setup)
@@ -364,7 +279,7 @@ opening_world setup steps is askable =
         spared = tt;
         keeps = refl;
       };
-      counts = tt;
+      counts = no_link;
     }
 
 pub opening_at : (setup : Setup) (steps : List Step) (is : IsSchedule setup steps)
@@ -397,5 +312,5 @@ module _ (setup : Setup) (steps : List Step) (now : WorldState) (run : AllHappen
 
   -- Packets follow two replies to each station.
   pub counted_streamed : AreStreamed (length setup.places.items) after.talk after.link
-  counted_streamed = streamed_of setup.places.items after
+  counted_streamed = streamed_of setup.places.items schedule.differ askable.codes after
       (facts_of setup schedule.differ askable.codes after now at_after.world) at_after.shaped

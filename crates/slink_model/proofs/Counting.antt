@@ -1,6 +1,6 @@
 -- Lists and counts of bytes: which replies and packets are whole in so many, and whether a line waits.
-use Rattle.std.proofs.Common.{◌≡◌, ℕ, ◌+◌, ◌-◌, ◌<◌, ◌≤◌, inl, inr, min, suc, zero, refl, sym, ap, subst, ◌∙◌, arith}
-use Rattle.std.proofs.Common.{if◌then◌else◌, List, [], ◌∷◌, ◌++◌, append_assoc, length, length-append, map, take, drop}
+use Rattle.std.proofs.Common.{◌≡◌, ℕ, ◌+◌, ◌-◌, ◌<◌, ◌≤◌, inl, inr, min, suc, zero, refl, sym, ap, ◌∙◌, arith}
+use Rattle.std.proofs.Common.{List, [], ◌∷◌, ◌++◌, append_assoc, length, length-append, map, take, drop}
 use Rattle.std.proofs.Common.{take-append-drop, ◌%◌, ◌^◌, codes}
 use Rattle.std.proofs.Math.Seq.{take-add, take-append-add, drop-append-add}
 use Rattle.std.proofs.lemmas.Bool.Decides.{leb_tells}
@@ -39,14 +39,8 @@ pub whole_or : (i : Item) (is : List Item) (d : ℕ) (P : List Item → List Ite
     (part (d - length (item_bytes i)) is))
     → (d < length (item_bytes i) → P [] (i ∷ is) d) → P (wholes d (i ∷ is)) (undelivered d (i ∷ is)) (part d (i ∷ is))
 whole_or i is d P fit lack = elim (leb_tells (length (item_bytes i)) d) [
-  | inl fits ↦ subst (λ t. P (if t then i ∷ wholes (d - length (item_bytes i)) is else [])
-      (if t then undelivered (d - length (item_bytes i)) is else i ∷ is)
-      (if t then part (d - length (item_bytes i)) is else d))
-      (sym fits.0) (fit fits.1)
-  | inr short ↦ subst (λ t. P (if t then i ∷ wholes (d - length (item_bytes i)) is else [])
-      (if t then undelivered (d - length (item_bytes i)) is else i ∷ is)
-      (if t then part (d - length (item_bytes i)) is else d))
-      (sym short.0) (lack short.1)
+  | inl fits ↦ rw fits.0 (fit fits.1)
+  | inr short ↦ rw short.0 (lack short.1)
 ]
 
 past : (xs ys : List ℕ) (d : ℕ) → length xs ≤ d → drop d (xs ++ ys) ≡ drop (d - length xs) ys

@@ -1,4 +1,7 @@
 -- Stretches of the records of one station.
+use Rattle.slink_feed.proofs.Items.{drop_at as from_record}
+use Rattle.std.proofs.lemmas.List.{drop_at, length-take-le}
+use Rattle.std.proofs.Common.{◌-◌, drop, take, take-append-drop}
 use Rattle.std.proofs.Common.{◌≡◌, ℕ, ◌+◌, ◌-◌, ◌%◌, ◌^◌, ◌<◌, ◌≤◌, inl, inr, zero, suc, refl, sym, ap, subst, ◌∙◌}
 use Rattle.std.proofs.Common.{arith, List, [], ◌∷◌, ◌++◌, append_assoc, length, length-append, Option, Some, None}
 use Rattle.std.proofs.Common.{slice_get}
@@ -12,59 +15,17 @@ use Rattle.slink_model.specs.World.{or_else}
 pub near_alike : (m n : ℕ) → m % 2 ^ 24 ≡ n % 2 ^ 24 → m < n + 2 ^ 24 → n < m + 2 ^ 24 → m ≡ n
 near_alike m n e a b = omega arith
 
--- where a record stands, the list is split
-pub split_at : (xs : List (List ℕ)) (i : ℕ) (r : List ℕ) → slice_get xs i ≡ Some r
-    → (prefix : List (List ℕ)) × (back : List (List ℕ)) × (xs ≡ prefix ++ r ∷ back) × (length prefix ≡ i)
-split_at [] i r h = absurd (let bad : None ≡ Some r = h in cc bad)
-split_at (x ∷ xs) zero r h = let both : Some x ≡ Some r = h in let same : x ≡ r = cc both in
-    ([], xs, ap (λ y. y ∷ xs) same, refl)
-split_at (x ∷ xs) (suc i) r h =
-    let more = split_at xs i r h in
-    (x ∷ more.0, more.1, ap (λ ys. x ∷ ys) more.2, omega (arith, more.3))
-
-pub head_at : (xs ys : List (List ℕ)) (r : List ℕ) → slice_get (xs ++ ys) (length xs) ≡ Some r
-    → (back : List (List ℕ)) × (ys ≡ r ∷ back)
-head_at [] [] r h = absurd (let bad : None ≡ Some r = h in cc bad)
-head_at [] (y ∷ ys) r h = let both : Some y ≡ Some r = h in let same : y ≡ r = cc both in (ys, ap (λ z. z ∷ ys) same)
-head_at (x ∷ xs) ys r h = head_at xs ys r h
-
 pub get_more : (xs ys : List (List ℕ)) (i : ℕ) (r : List ℕ) → slice_get xs i ≡ Some r → slice_get (xs ++ ys) i ≡ Some r
 get_more [] ys i r h = absurd (let bad : None ≡ Some r = h in cc bad)
 get_more (x ∷ xs) ys zero r h = h
 get_more (x ∷ xs) ys (suc i) r h = get_more xs ys i r h
 
--- The record after the last one held is held too.
-pub holds_next : (first n : ℕ) (F : List (List ℕ)) (next : Option ℕ) (held : List (List ℕ)) (start : Option ℕ)
-    (r : List ℕ) → first ≤ n → slice_get F (n - first) ≡ Some r
-    → ((s : ℕ) → start ≡ Some s → n ≡ s + length held) → Holds first F next held start
-    → Holds first F (Some ((n + 1) % 2 ^ 24)) (held ++ r ∷ []) (or_else start (Some n))
-holds_next first n F next held None r from at same h =
-    let cut : (prefix : List (List ℕ)) × (back : List (List ℕ)) × (F ≡ prefix ++ r ∷ back)
-    × (length prefix ≡ n - first) =
-    split_at F (n - first) r at in
-    let one : r ∷ [] ≡ held ++ r ∷ [] = ap (λ xs. xs ++ r ∷ []) (sym h) in (
-      cut.0,
-      cut.1,
-      cut.2 ∙ ap (λ xs. cut.0 ++ (xs ++ cut.1)) one,
-      omega (arith, cut.3, from),
-      ap (λ m. Some (m % 2 ^ 24)) (let e : n + 1 ≡ n + length (held ++ r ∷ []) = omega (arith, ap length one) in e),
-    )
-holds_next first n F next held (Some s) r from at same h =
-    let here : n ≡ s + length held = same s refl in
-    let whole : F ≡ (h.0 ++ held) ++ h.1 = h.2 ∙ sym (append_assoc h.0 held h.1) in
-    let i : n - first ≡ length (h.0 ++ held) = omega (arith, here, h.3, length-append h.0 held) in
-    let top = head_at (h.0 ++ held) h.1 r
-    (ap (slice_get ((h.0 ++ held) ++ h.1)) (sym i) ∙ (ap (λ xs. slice_get xs (n - first)) (sym whole) ∙ at)) in (
-      h.0,
-      top.0,
-      h.2 ∙ (ap (λ xs. h.0 ++ (held ++ xs)) top.1 ∙ ap (λ xs. h.0 ++ xs) (sym (append_assoc held (r ∷ []) top.0))),
-      h.3,
-      ap (λ m. Some (m % 2 ^ 24)) (let e : n + 1 ≡ s + length (held ++ r ∷ []) = omega (
-        arith,
-        here,
-        length-append held (r ∷ []),
-      ) in e),
-    )
+holds_as : (first n s : ℕ) (F held older back : List (List ℕ)) (r : List ℕ) → F ≡ older ++ (held ++ r ∷ back)
+    → s ≡ first + length older → n ≡ s + length held
+    → Holds first F (Some ((n + 1) % 2 ^ 24)) (held ++ r ∷ []) (Some s)
+holds_as first n s F held older back r is begins here =
+    let e : n + 1 ≡ s + length (held ++ r ∷ []) = omega (arith, here, length-append held (r ∷ [])) in
+    (older, back, rw (append_assoc held (r ∷ []) back) is, begins, ap (λ m. Some (m % 2 ^ 24)) e)
 
 -- another record is pushed
 pub holds_pushed : (first : ℕ) (F : List (List ℕ)) (next : Option ℕ) (held : List (List ℕ)) (start : Option ℕ)
@@ -117,50 +78,6 @@ way_sent few first F held start sent g h rest r e at w = (
   first_more start sent w.0 g.position rest r w.3 w.5,
 )
 
--- what is wanted next is what comes next
-wanted_here : (first n : ℕ) (F : List (List ℕ)) (next : Option ℕ) (held : List (List ℕ)) (s : ℕ) → n < first + length F
-    → ((w : ℕ) → next ≡ Some w → n % 2 ^ 24 ≡ w) → Holds first F next held (Some s)
-    → IsNear (λ x. first + length F < x + 2 ^ 24) n (Some s) (length held) → n ≡ s + length held
-wanted_here first n F next held s past wanted h near = elim near [
-  | inl same ↦ same
-  | inr far ↦ near_alike _ _ (wanted ((s + length held) % 2 ^ 24) h.4) (omega (arith, past, far.1)) far.0
-]
-
-near_next : (few : ℕ → Type 0) (n : ℕ) (start : Option ℕ) (held : List (List ℕ)) (r : List ℕ)
-    → ((s : ℕ) → start ≡ Some s → n ≡ s + length held) → (start ≡ None → held ≡ [])
-    → IsNear few (n + 1) (or_else start (Some n)) (length (held ++ r ∷ []))
-near_next few n None held r same none =
-    inl (let e : n + 1 ≡ n + length (held ++ r ∷ []) = omega (
-      arith,
-      length-append held (r ∷ []),
-      ap length (none refl),
-    ) in e)
-near_next few n (Some s) held r same none =
-    inl (let e : n + 1 ≡ s + length (held ++ r ∷ []) = omega (arith, length-append held (r ∷ []), same s refl) in e)
-
-none_held : (first : ℕ) (F : List (List ℕ)) (next : Option ℕ) (held : List (List ℕ)) (start : Option ℕ)
-    → Holds first F next held start → start ≡ None → held ≡ []
-none_held first F next held None h e = h
-none_held first F next held (Some s) h e = absurd (let bad : Some s ≡ None = e in cc bad)
-
-here_if : (first n : ℕ) (F : List (List ℕ)) (next : Option ℕ) (held : List (List ℕ)) (start : Option ℕ)
-    → n < first + length F → ((w : ℕ) → next ≡ Some w → n % 2 ^ 24 ≡ w) → Holds first F next held start
-    → IsNear (λ x. first + length F < x + 2 ^ 24) n start (length held) → (s : ℕ) → start ≡ Some s → n ≡ s + length held
-here_if first n F next held None past wanted h near s e = absurd (let bad : None ≡ Some s = e in cc bad)
-here_if first n F next held (Some t) past wanted h near s e = let both : Some t ≡ Some s = e in let same : t ≡ s =
-    cc both in wanted_here first n F next held t past wanted h near ∙ ap (λ x. x + length held) same
-
-start_same : (start sent : Option ℕ) (n : ℕ) (i : ℕ × List ℕ) (rest : List (ℕ × List ℕ))
-    → IsFirst start sent n (i ∷ rest) → or_else start (Some n) ≡ or_else start sent
-start_same (Some s) sent n i rest f = refl
-start_same None None n i rest f = absurd (omega (arith, ap length f))
-start_same None (Some m) n i rest f = ap (λ x. Some x) f
-
-first_started : (start sent : Option ℕ) (n : ℕ) (rest : List (ℕ × List ℕ))
-    → IsFirst (or_else start (Some n)) sent (n + 1) rest
-first_started None sent n rest = tt
-first_started (Some s) sent n rest = tt
-
 -- With a packet on the way there is the number of the first one that was sent.
 started_some : (start sent : Option ℕ) (n : ℕ) (i : ℕ × List ℕ) (rest : List (ℕ × List ℕ))
     → IsFirst start sent n (i ∷ rest) → or_else start sent ≡ None → ⊥
@@ -173,6 +90,46 @@ pub way_started : (few : ℕ → Type 0) (first : ℕ) (F held : List (List ℕ)
     → or_else start sent ≡ None → ⊥
 way_started few first F held start sent g i rest w e = started_some start sent w.0 i rest w.5 e
 
+-- after the record that is held the next one comes
+next_comes : (few : ℕ → Type 0) (first n s : ℕ) (F held : List (List ℕ)) (sent : Option ℕ) (g : Grant) (r : List ℕ)
+    (rest : List (ℕ × List ℕ)) → first ≤ n → AreNext first F (n + 1) rest → g.position ≡ n + 1 + length rest
+    → n ≡ s + length held → IsOnWay few first F (held ++ r ∷ []) (Some s) sent (Some g) rest
+next_comes few first n s F held sent g r rest from more position here =
+    let e : n + 1 ≡ s + length (held ++ r ∷ []) = omega (arith, here, length-append held (r ∷ [])) in
+    (n + 1, omega (arith, from), more, position, inl e, tt)
+
+comes : (first : ℕ) (F : List (List ℕ)) (next : Option ℕ) (held : List (List ℕ)) (start sent : Option ℕ) (g : Grant)
+    (n : ℕ) (r : List ℕ) (rest : List (ℕ × List ℕ)) → first ≤ n → slice_get F (n - first) ≡ Some r
+    → AreNext first F (n + 1) rest → g.position ≡ n + 1 + length rest
+    → ((w : ℕ) → next ≡ Some w → n % 2 ^ 24 ≡ w) → Holds first F next held start
+    → IsNear (λ x. first + length F < x + 2 ^ 24) n start (length held) → IsFirst start sent n ((n, r) ∷ rest)
+    → Holds first F (Some ((n + 1) % 2 ^ 24)) (held ++ r ∷ []) (or_else start sent)
+    × IsOnWay (λ x. first + length F < x + 2 ^ 24) first F (held ++ r ∷ []) (or_else start sent) sent (Some g) rest
+comes first F next held None None g n r rest from at more position wanted h near begins =
+    absurd (omega (arith, ap length begins))
+comes first F next held None (Some m) g n r rest from at more position wanted h near begins =
+    let i : ℕ = n - first in
+    let lt : i < length F = slice_get_within F i r at in
+    let here : n ≡ m + length held = omega (arith, begins, ap length h) in (
+      holds_as first n m F held (take i F) (drop (i + 1) F) r
+          (rw (h, ← (from_record F i r at)) (sym (take-append-drop i F)))
+          (omega (arith, length-take-le i F (omega (arith, lt)), from, begins)) here,
+      next_comes (λ x. first + length F < x + 2 ^ 24) first n m F held (Some m) g r rest from more position here,
+    )
+comes first F next held (Some s) sent g n r rest from at more position wanted h near begins =
+    let i : ℕ = n - first in
+    let lt : i < length F = slice_get_within F i r at in
+    let here : n ≡ s + length held = elim near [
+      | inl same ↦ same
+      | inr far ↦ near_alike _ _ (wanted ((s + length held) % 2 ^ 24) h.4) (omega (arith, from, lt, far.1)) far.0
+    ] in
+    let before : length (h.0 ++ held) ≡ i = omega (arith, here, h.3, length-append h.0 held) in
+    let later : h.1 ≡ r ∷ drop (i + 1) F = sym (drop_at (h.0 ++ held) h.1 i before)
+    ∙ (ap (drop i) (append_assoc h.0 held h.1 ∙ sym h.2) ∙ from_record F i r at) in (
+      holds_as first n s F held h.0 (drop (i + 1) F) r (rw (← later) h.2) h.3 here,
+      next_comes (λ x. first + length F < x + 2 ^ 24) first n s F held sent g r rest from more position here,
+    )
+
 -- The record of a packet that comes, and that is wanted, is the one after the last one held.
 pub delivered : (first : ℕ) (F : List (List ℕ)) (next : Option ℕ) (held : List (List ℕ)) (start sent : Option ℕ)
     (g : Grant) (n : ℕ) (r : List ℕ) (rest : List (ℕ × List ℕ))
@@ -181,27 +138,9 @@ pub delivered : (first : ℕ) (F : List (List ℕ)) (next : Option ℕ) (held : 
     → Holds first F (Some ((n + 1) % 2 ^ 24)) (held ++ r ∷ []) (or_else start sent)
     × IsOnWay (λ x. first + length F < x + 2 ^ 24) first F (held ++ r ∷ []) (or_else start sent) sent (Some g) rest
 delivered first F next held start sent g n r rest wanted h w =
-    let few : ℕ → Type 0 = λ x. first + length F < x + 2 ^ 24 in
-    let at : slice_get F (n - first) ≡ Some r = subst (λ m. slice_get F (m - first) ≡ Some r) (sym w.2.0) w.2.1 in
-    let from : first ≤ n = omega (arith, w.1, w.2.0) in
-    let lt : n - first < length F = slice_get_within F (n - first) r at in
-    let near : IsNear few n start (length held) = subst (λ m. IsNear few m start (length held)) (sym w.2.0) w.4 in
-    let same : (s : ℕ) → start ≡ Some s → n ≡ s + length held =
-    here_if first n F next held start (omega (arith, from, lt)) wanted h near in
-    let begins : or_else start (Some n) ≡ or_else start sent =
-    start_same start sent n (n, r) rest (subst (λ m. IsFirst start sent m ((n, r) ∷ rest)) (sym w.2.0) w.5) in
-    let on = near_next few n start held r same (none_held first F next held start h) in (
-      subst (Holds first F (Some ((n + 1) % 2 ^ 24)) (held ++ r ∷ [])) begins
-          (holds_next first n F next held start r from at same h),
-      rw (← begins) (
-        n + 1,
-        omega (arith, from),
-        subst (λ m. AreNext first F (m + 1) rest) (sym w.2.0) w.2.2,
-        omega (arith, w.3, w.2.0),
-        on,
-        first_started start sent n rest,
-      ),
-    )
+    comes first F next held start sent g n r rest (omega (arith, w.1, w.2.0)) (rw w.2.0 w.2.1) (rw w.2.0 w.2.2)
+    (omega (arith, w.3, w.2.0)) wanted h (rw w.2.0 w.4)
+    (subst (λ m. IsFirst start sent m ((n, r) ∷ rest)) (sym w.2.0) w.5)
 
 first_none : (start : Option ℕ) (n : ℕ) → IsFirst start None n []
 first_none None n = refl

@@ -1,37 +1,35 @@
 -- The first packet of a station on its way is that of the record after the last one held.
 use Rattle.std.proofs.Common.{Bool, true, false, ◌==◌, if◌then◌else◌}
-use Rattle.slink_model.specs.Ties.{AreOfPlaces}
-use Rattle.slink_model.proofs.Pushed.{rings_after}
 use Rattle.std.proofs.Common.{◌≡◌, ℕ, ◌+◌, ◌-◌, ◌%◌, ◌^◌, ◌<◌, inl, inr, refl, sym, ap, subst, ◌∙◌, arith, List}
-use Rattle.std.proofs.Common.{[], ◌∷◌, ◌++◌, length, length-append, append_assoc, get_or, drop, take, Option, Some}
-use Rattle.std.proofs.Common.{None, slice_get}
-use Rattle.std.proofs.lemmas.Bool.{cases_lt}
+use Rattle.std.proofs.Common.{[], ◌∷◌, length, length-append, get_or, drop, take, Option, Some}
+use Rattle.std.proofs.Common.{None}
 use Rattle.std.proofs.lemmas.Option.{slice_get_within}
 use Rattle.slink_wire.specs.Packet.{IsPacket, packet_bytes}
-use Rattle.slink_wire.specs.Place.{Bears, Fields}
+use Rattle.slink_wire.specs.Place.{Bears}
 use Rattle.slink_wire.proofs.Carrying.{one_place}
 use Rattle.slink_wire.proofs.Packets.{one_packet, read_back}
 use Rattle.slink_feed.specs.declared.grant.Grant.{Grant}
 use Rattle.slink_model.specs.declared.world.Setup.{Setup}
 use Rattle.slink_model.specs.declared.world.Step.{Step}
 use Rattle.slink_feed.specs.Dialogue.{next_at}
-use Rattle.slink_model.specs.Counted.{counted_after, counted_opening, undelivered}
+use Rattle.slink_model.specs.Counted.{undelivered}
 use Rattle.slink_model.specs.Going.{GoesOn}
 use Rattle.slink_feed.specs.Listening.{IsLinked}
 use Rattle.slink_feed.specs.Session.{grant_at}
 use Rattle.slink_model.specs.Spared.{AreAskable}
 use Rattle.slink_model.specs.Slice.{IsSchedule, LackFew, LacksFew}
-use Rattle.slink_model.specs.Ties.{AreNext, AreWhole, Holds, IsLinkTied, IsOnWay, Item, Accepted, Refused, Greeted}
-use Rattle.slink_model.specs.Ties.{Carried, Finished, LinkTies, Places, WorldTies, carried_of, of_place, way_bytes}
+use Rattle.slink_model.specs.Ties.{Holds, IsLinkTied, IsOnWay, Item, Accepted, Refused, Greeted}
+use Rattle.slink_model.specs.Ties.{Carried, Finished, Places, WorldTies, carried_of, of_place, way_bytes}
 use Rattle.slink_model.specs.World.{AllHappen, Differ, LinkState, WorldState, number_at, opening}
 use Rattle.slink_model.proofs.Following.{near_alike}
-use Rattle.slink_model.proofs.Items.{carried_here, mark, mark_of, marked}
-use Rattle.slink_feed.proofs.Items.{within_is}
+use Rattle.slink_model.proofs.Items.{mark, mark_of, marked}
 use Rattle.slink_model.proofs.Linked.{any}
 use Rattle.slink_model.proofs.Outcomes.{same_cut}
-use Rattle.slink_model.proofs.CountedWorld.{AreCounts, IsWorld, at_after, link_at}
-use Rattle.slink_model.proofs.Shaking.{AreOfPlace, Flows, IsOfPlace, IsSuited}
-use Rattle.slink_model.proofs.Worlds.{last_lacks, ties_after}
+use Rattle.slink_model.proofs.CountedWorld.{at_after, link_at}
+use Rattle.slink_model.specs.Ties.{AreOfPlace, IsOfPlace}
+use Rattle.slink_model.proofs.Shaking.{IsSuited}
+use Rattle.slink_model.proofs.Counts.{Pinned}
+use Rattle.slink_model.proofs.Worlds.{ties_after}
 use Rattle.slink_feed.proofs.Prefixed.{packet_long}
 
 module _ (places : Places) (differ : Differ places) where
@@ -95,32 +93,6 @@ module _ (places : Places) (differ : Differ places) where
       first_many x y xs ys p.0 q.0 (sym (marked x xs) ∙ (ap mark_in e ∙ marked y ys)) e j
       (λ f. same_many xs ys p.1 q.1 f j)
 
-  -- what is carried was pushed, and so is of its station
-  each_matched : (items : List Item) → AreWhole items → ((k n : ℕ) (r : List ℕ) (prefix back : List (ℕ × List ℕ))
-      → of_place k items ≡ prefix ++ (n, r) ∷ back → (p : Fields × Option ℕ) × (slice_get places k ≡ Some p)
-      × (length r ≡ 512) × Bears r p.0) → AreOfPlace places items
-  each_matched [] are each = tt
-  each_matched (Carried k n r ∷ is) are each = (
-    each k n r [] (of_place k is) (ap (λ b. b ++ of_place k is) (carried_here k n r)),
-    each_matched is are.1 (λ i m x prefix back e. each i m x (carried_of i (Carried k n r) ++ prefix) back
-        (ap (λ b. carried_of i (Carried k n r) ++ b) e
-        ∙ sym (append_assoc (carried_of i (Carried k n r)) prefix ((m, x) ∷ back)))),
-  )
-  each_matched (i ∷ is) are each = (tt, each_matched is are each)
-
--- a record among those that come next was pushed
-next_at_split : (first : ℕ) (F : List (List ℕ)) (n : ℕ) (prefix back : List (ℕ × List ℕ)) (m : ℕ) (r : List ℕ)
-    → AreNext first F n (prefix ++ (m, r) ∷ back) → (i : ℕ) × (slice_get F i ≡ Some r)
-next_at_split first F n [] back m r a = (n - first, a.1)
-next_at_split first F n (x ∷ prefix) back m r a = next_at_split first F (n + 1) prefix back m r a.2
-
-way_pushed_some : (first : ℕ) (F held : List (List ℕ)) (start sent : Option ℕ) (o : Option Grant)
-    (prefix back : List (ℕ × List ℕ)) (m : ℕ) (r : List ℕ)
-    → IsOnWay any first F held start sent o (prefix ++ (m, r) ∷ back) → (i : ℕ) × (slice_get F i ≡ Some r)
-way_pushed_some first F held start sent None prefix back m r w =
-    absurd (omega (arith, ap length w, length-append prefix ((m, r) ∷ back)))
-way_pushed_some first F held start sent (Some g) prefix back m r w = next_at_split first F w.0 prefix back m r w.2
-
 -- the number of the first packet on its way
 goes_next : (first : ℕ) (F held : List (List ℕ)) (next sent : Option ℕ) (s : ℕ) (o : Option Grant) (i : ℕ × List ℕ)
     (rest other : List (ℕ × List ℕ)) → first + length F < s + length held + 2 ^ 24 → Holds first F next held (Some s)
@@ -140,32 +112,12 @@ goes_next first F held next sent s (Some g) i rest other few holds way suited ma
     way.2.0 ∙ is
 
 module _ (places : Places) (differ : Differ places) (first : ℕ) (w : WorldState) (l : LinkState) where
-  goes_on_at : (its : List Item) → Flows places w.client l.session.state.grants l.to_client its
-      → AreOfPlaces places w.pushed → WorldTies places first w → LacksFew first w → w.link ≡ Some l
-      → IsLinked w.client.talk.stage → GoesOn places w l
-  goes_on_at its flows sound_all t lacks is linked =
-      let tied : IsLinkTied places first w (Some l) = subst (IsLinkTied places first w) is t.link in
-      let ties : LinkTies places first (λ k. any) w.pushed w.client w.held w.start l.session.state l.first_sent
-      l.to_client = tied.1 in
-      let matched : AreOfPlace places ties.items =
-      each_matched places differ ties.items ties.are_whole (λ k n r prefix back e.
-      let lt : k < length places =
-      elim (cases_lt k (length places)) [
-        | inl below ↦ below
-        | inr past ↦ absurd (omega (
-          arith,
-          ap length (sym e ∙ ties.within k past),
-          length-append prefix ((n, r) ∷ back),
-        ))
-      ] in
-      let q : (p : Fields × Option ℕ) × (slice_get places k ≡ Some p) = within_is places k lt in
-      let at : (i : ℕ) × (slice_get (get_or w.pushed k []) i ≡ Some r) =
-      way_pushed_some first (get_or w.pushed k []) (get_or w.held k []) (number_at w.start k)
-      (number_at l.first_sent k) (grant_at l.session.state.grants k) prefix back n r
-      (subst (IsOnWay any first (get_or w.pushed k []) (get_or w.held k []) (number_at w.start k)
-      (number_at l.first_sent k) (grant_at l.session.state.grants k)) e (ties.places_are k lt)) in
-      let sound : (length r ≡ 512) × Bears r q.0.0 = sound_all k q.0 q.1 at.0 r at.1 in
-      (q.0, q.1, sound.0, sound.1)) in
+  goes_on_at : (taken : List ℕ) (its : List Item)
+      → Pinned places w.client l.session.state taken l.to_server l.to_client its → WorldTies places first w
+      → LacksFew first w → w.link ≡ Some l → IsLinked w.client.talk.stage → GoesOn places w l
+  goes_on_at taken its pin t lacks is linked =
+      let tied = subst (IsLinkTied places first w.pushed w.client w.held w.start) is t.link in
+      let ties = tied.1 in
       record {
         items = ties.items;
         bytes = ties.flow linked;
@@ -173,15 +125,9 @@ module _ (places : Places) (differ : Differ places) (first : ℕ) (w : WorldStat
             goes_next first (get_or w.pushed k []) (get_or w.held k []) (next_at w.client.talk.wants k)
             (number_at l.first_sent k) start (grant_at l.session.state.grants k) i rest (of_place k its)
             (lacks k start held)
-            (subst (Holds first (get_or w.pushed k []) (next_at w.client.talk.wants k) (get_or w.held k [])) held
-            (t.holds k lt))
-            (subst (λ (o : Option ℕ). IsOnWay any first (get_or w.pushed k []) (get_or w.held k []) o
-            (number_at l.first_sent k) (grant_at l.session.state.grants k) (i ∷ rest)) held
-            (subst (IsOnWay any first (get_or w.pushed k []) (get_or w.held k []) (number_at w.start k)
-            (number_at l.first_sent k) (grant_at l.session.state.grants k)) here (ties.places_are k lt)))
-            (flows.suited k)
-            (sym (ap length here) ∙ same_many places differ ties.items its matched flows.matched
-            (sym (ties.flow linked) ∙ flows.flow) k);
+            (rw held at (t.beside.holds k lt)) (rw (held, here) at (ties.places_are k lt)) (pin.left.suited k)
+            (sym (ap length here) ∙ same_many places differ ties.items its ties.matched pin.left.matched
+            (sym (ties.flow linked) ∙ pin.flow) k);
       }
 
 module _ (setup : Setup) (steps : List Step) (now : WorldState) (run : AllHappen (opening setup) steps now)
@@ -190,11 +136,9 @@ module _ (setup : Setup) (steps : List Step) (now : WorldState) (run : AllHappen
   -- After any steps a link goes on so.
   pub goes_on_after : (l : LinkState) → now.link ≡ Some l → IsLinked now.client.talk.stage
       → GoesOn setup.places.items now l
-  goes_on_after l at linked =
-      let world : IsWorld setup is.differ askable.codes (counted_after setup (counted_opening setup) steps) now =
-      (at_after setup steps now run is askable).world in
-      let c = link_at setup is.differ askable.codes now.client _ l
-      (subst (AreCounts setup is.differ askable.codes now.client _) at world.counts) in
-      goes_on_at setup.places.items is.differ setup.first now l (undelivered c.0.delivered c.0.sent)
-      (c.2.linked linked).flows (rings_after setup steps now run is).sound (ties_after setup steps now run is lacks)
-      (last_lacks setup.first steps (opening setup) now run lacks) at linked
+  goes_on_after l there linked =
+      let world = (at_after setup steps now run is askable).world in
+      let c = link_at setup is.differ askable.codes now.client _ l (rw there at world.counts) in
+      let after = ties_after setup steps now run is lacks in
+      goes_on_at setup.places.items is.differ setup.first now l _ (undelivered c.0.delivered c.0.sent)
+      (c.2.linked linked) after.1 after.2 there linked

@@ -6,7 +6,8 @@ use Rattle.std.proofs.lemmas.Bool.Decides.{eqb_tells}
 use Rattle.slink_wire.specs.declared.reply.Reply.{Reply}
 use Rattle.slink_wire.specs.declared.reply.Reply.TheVariants as replies
 use Rattle.slink_wire.specs.Reply.{reply_bytes}
-use Rattle.slink_model.specs.Ties.{AreWhole, Item, Accepted, Refused, Greeted, Carried, Finished, Holds, carried_of}
+use Rattle.slink_model.specs.Ties.{AreOfPlace, Places, Item, Accepted, Refused, Greeted, Carried, Finished, Holds}
+use Rattle.slink_model.specs.Ties.{carried_of}
 use Rattle.slink_model.specs.Ties.{item_bytes, items_of, of_place, way_bytes}
 
 pub way_more : (xs ys : List Item) → way_bytes (xs ++ ys) ≡ way_bytes xs ++ way_bytes ys
@@ -19,10 +20,10 @@ of_more k [] ys = refl
 of_more k (x ∷ xs) ys = ap (λ b. carried_of k x ++ b) (of_more k xs ys)
     ∙ sym (append_assoc (carried_of k x) (of_place k xs) (of_place k ys))
 
-pub whole_more : (xs ys : List Item) → AreWhole xs → AreWhole ys → AreWhole (xs ++ ys)
-whole_more [] ys a b = b
-whole_more (Carried k n r ∷ xs) ys a b = (a.0, whole_more xs ys a.1 b)
-whole_more (x ∷ xs) ys a b = whole_more xs ys a b
+pub matched_more : (places : Places) (xs ys : List Item) → AreOfPlace places xs → AreOfPlace places ys
+    → AreOfPlace places (xs ++ ys)
+matched_more places [] ys p q = q
+matched_more places (x ∷ xs) ys p q = (p.0, matched_more places xs ys p.1 q)
 
 -- what is sent goes after what is on its way
 pub flow_more : (kept way bytes : List ℕ) (xs ys : List Item) → bytes ≡ way_bytes ys → kept ++ way ≡ way_bytes xs
@@ -34,9 +35,9 @@ pub reply_items : (reply : Reply) → reply_bytes reply ≡ way_bytes (items_of 
 reply_items replies.Nothing = refl
 reply_items reply = refl
 
-pub reply_whole : (reply : Reply) → AreWhole (items_of reply)
-reply_whole replies.Nothing = tt
-reply_whole reply = tt
+pub reply_matched : (places : Places) (reply : Reply) → AreOfPlace places (items_of reply)
+reply_matched places replies.Nothing = tt
+reply_matched places reply = (tt, tt)
 
 pub reply_carries : (k : ℕ) (reply : Reply) → of_place k (items_of reply) ≡ []
 reply_carries k replies.Nothing = refl

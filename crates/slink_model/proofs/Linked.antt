@@ -16,13 +16,14 @@ use Rattle.slink_feed.specs.Listening.{Listening}
 use Rattle.slink_feed.specs.Dialogue.{next_at}
 use Rattle.slink_feed.specs.Session.{Grants, IsBefore, State, at, grant_at, packet_at, sent}
 use Rattle.slink_feed.specs.Session.{sent_bytes}
-use Rattle.slink_model.specs.Ties.{AllHold, AreShown, AreWhole, Carried, Finished, Holds, IsGranted, IsNear, IsOnWay}
+use Rattle.slink_model.specs.Ties.{AllHold, AreOfPlace, AreShown, Carried, IsOfPlace, Finished, Holds, IsGranted}
+use Rattle.slink_model.specs.Ties.{IsNear, IsOnWay}
 use Rattle.slink_model.specs.Ties.{Item, Leaves, LinkTies, Places, dropped, given, items_of, of_place, same, way_bytes}
 use Rattle.slink_feed.specs.Window.{Shows, Window, oldest_of, record_at}
 use Rattle.slink_model.specs.World.{Lists, Numbers, first_after, number_at, or_else}
 use Rattle.slink_feed.proofs.Items.{at_number, oldest_is, one_value, put_here, put_there}
-use Rattle.slink_model.proofs.Items.{carried_there, carries_none, flow_more, held_to}
-use Rattle.slink_model.proofs.Items.{reply_carries, reply_items, reply_whole, whole_more}
+use Rattle.slink_model.proofs.Items.{carries_none, flow_more, held_to}
+use Rattle.slink_model.proofs.Items.{matched_more, reply_carries, reply_items, reply_matched}
 use Rattle.slink_model.proofs.Following.{way_granted, way_sent}
 
 abbrev pub any : ℕ → Type 0
@@ -40,19 +41,17 @@ place_granted : (feed : List Window) (k first : ℕ) (w : Window) (F held : List
     → Holds first F next held start → rest ≡ [] → sent ≡ None → IsGranted feed k old new
     → IsOnWay any first F held start sent old rest → IsOnWay any first F held start sent new rest
 place_granted feed k first w F held next start sent old new rest here shows room h none unsent (same e) way =
-    subst (λ o. IsOnWay any first F held start sent o rest) (sym e) way
+    rw e way
 place_granted feed k first w F held next start sent old new rest here shows room h none unsent (dropped e) way =
-    subst (λ o. IsOnWay any first F held start sent o rest) (sym e) none
+    rw e none
 place_granted feed k first w F held next start sent old new rest here shows room h none unsent (given g v e at lo hi)
     way =
     let one : v ≡ w = one_value (slice_get feed k) v w at here in
     let from : oldest_of w ≤ g.position = subst (λ (x : Window). oldest_of x ≤ g.position) one lo in
     let o : oldest_of w ≡ first + (length F - w.capacity) = oldest_is w first F shows in
-    let begins : IsOnWay any first F held start sent (Some g) [] =
-    way_granted any first F held start sent g (omega (arith, from, o))
+    let begins = way_granted any first F held start sent g (omega (arith, from, o))
     (near_granted first g.position F next held start (omega (arith, from, o, room)) h) unsent in
-    subst (λ x. IsOnWay any first F held start sent x rest) (sym e)
-    (subst (IsOnWay any first F held start sent (Some g)) (sym none) begins)
+    rw (e, none) begins
 
 module _ (places : Places) (first : ℕ) (windows : List Window) (pushed : Lists) (client : Listening) (held : Lists)
     (start : Numbers) (shown : AreShown places first windows pushed)
@@ -65,17 +64,15 @@ module _ (places : Places) (first : ℕ) (windows : List Window) (pushed : Lists
       → Linked new first_sent (way ++ reply_bytes reply)
   before_answered s first_sent way new reply before kept l = record {
     items = l.items ++ items_of reply;
-    are_whole = whole_more l.items (items_of reply) l.are_whole (reply_whole reply);
+    matched = matched_more places l.items (items_of reply) l.matched (reply_matched places reply);
     flow = λ linked. flow_more client.kept way (reply_bytes reply) l.items (items_of reply) (reply_items reply)
         (l.flow linked);
     before = λ still k. (
       carries_none k l.items (items_of reply) (reply_carries k reply) ∙ (l.before before k).0,
       (l.before before k).1,
     );
-    within = λ k past. carries_none k l.items (items_of reply) (reply_carries k reply) ∙ l.within k past;
     places_are = λ k lt.
-        let w : (v : Window) × (slice_get windows k ≡ Some v) × Shows v first (get_or pushed k [])
-        × (v.capacity ≤ 1000000) = shown k lt in
+        let w = shown k lt in
         let granted = place_granted windows k first w.0 (get_or pushed k []) (get_or held k [])
         (next_at client.talk.wants k) (number_at start k) (number_at first_sent k) (grant_at s.grants k)
         (grant_at new.grants k) (of_place k l.items) w.1 w.2 w.3 (holds k lt) (l.before before k).0
@@ -87,15 +84,15 @@ module _ (places : Places) (first : ℕ) (windows : List Window) (pushed : Lists
 
   -- what is sent carries no record, and the grants stay
   stays_on : (s : State) (first_sent : Numbers) (way : List ℕ) (new : State) (more : List Item) (bytes : List ℕ)
-      → ((IsBefore new.phase) → IsBefore s.phase) → new.grants ≡ s.grants → bytes ≡ way_bytes more → AreWhole more
+      → ((IsBefore new.phase) → IsBefore s.phase) → new.grants ≡ s.grants → bytes ≡ way_bytes more
+      → AreOfPlace places more
       → ((k : ℕ) → of_place k more ≡ []) → Linked s first_sent way
       → Linked new first_sent (way ++ bytes)
   stays_on s first_sent way new more bytes was stay e whole none l = record {
     items = l.items ++ more;
-    are_whole = whole_more l.items more l.are_whole whole;
+    matched = matched_more places l.items more l.matched whole;
     flow = λ linked. flow_more client.kept way bytes l.items more e (l.flow linked);
     before = λ still k. (carries_none k l.items more (none k) ∙ (l.before (was still) k).0, (l.before (was still) k).1);
-    within = λ k past. carries_none k l.items more (none k) ∙ l.within k past;
     places_are = λ k lt.
         subst (IsOnWay any first (get_or pushed k []) (get_or held k []) (number_at start k) (number_at first_sent k)
         (grant_at new.grants k)) (sym (carries_none k l.items more (none k)))
@@ -136,17 +133,14 @@ module _ (places : Places) (first : ℕ) (windows : List Window) (pushed : Lists
 
   record_sent : (s : State) (first_sent : Numbers) (way : List ℕ) (k : ℕ) (g : Grant) (w : Window) (r : List ℕ)
       → k < length places → length places ≤ 16 → s.phase ≡ Streaming → grant_at s.grants k ≡ Some g
-      → slice_get windows k ≡ Some w → length r ≡ 512 → record_at w g.position ≡ Some r
+      → slice_get windows k ≡ Some w → IsOfPlace places (Carried k g.position r) → record_at w g.position ≡ Some r
       → Linked s first_sent way → Goes first_sent s.grants k way (packet_at s k g (Some r))
-  record_sent s first_sent way k g w r lt most phase grant here long at l =
+  record_sent s first_sent way k g w r lt most phase grant here of at l =
       let h : Grant = record { mode = g.mode; position = g.position + 1 } in
       let position : Option ℕ = option_map (λ (x : Grant). x.position) (grant_at s.grants k) in
-      let shows : (v : Window) × (slice_get windows k ≡ Some v) × Shows v first (get_or pushed k [])
-      × (v.capacity ≤ 1000000) = shown k lt in
+      let shows = shown k lt in
       let one : shows.0 ≡ w = one_value (slice_get windows k) shows.0 w shows.1 here in
-      let record_is : slice_get (get_or pushed k []) (g.position - first) ≡ Some r =
-      at_number w first (get_or pushed k []) g.position r
-      (subst (λ (v : Window). Shows v first (get_or pushed k [])) one shows.2) at in
+      let record_is = at_number w first (get_or pushed k []) g.position r (rw one at shows.2) at in
       let item : List Item = Carried k g.position r ∷ [] in
       let sent_now : Numbers = first_after first_sent s.grants k (packet_at s k g (Some r)).1 in
       let number_k : number_at sent_now k ≡ or_else (number_at first_sent k) (Some g.position) =
@@ -154,36 +148,32 @@ module _ (places : Places) (first : ℕ) (windows : List Window) (pushed : Lists
       ∙ ap (λ (o : Option Grant). or_else (number_at first_sent k) (option_map (λ (x : Grant). x.position) o)) grant in
       record {
         items = l.items ++ item;
-        are_whole = whole_more l.items item l.are_whole (long, tt);
+        matched = matched_more places l.items item l.matched (of, tt);
         flow = λ linked. flow_more client.kept way (packet_bytes (g.position % 2 ^ 24) r) l.items item
             (sym (append-nil (packet_bytes (g.position % 2 ^ 24) r))) (l.flow linked);
         before = λ still. absurd (subst IsBefore phase still);
-        within = λ j past. carries_none j l.items item
-            (ap (λ b. b ++ []) (carried_there k j g.position r (λ e. omega (arith, e, past, lt)))) ∙ l.within j past;
         places_are = each_sent s k g r l.items (λ i o is. i < length places → IsOnWay any first (get_or pushed i [])
             (get_or held i []) (number_at start i) (number_at sent_now i) o is) grant
-            (λ below. subst (λ (f : Option ℕ). IsOnWay any first (get_or pushed k []) (get_or held k [])
-            (number_at start k) f (Some h) (of_place k l.items ++ (g.position, r) ∷ [])) (sym number_k)
-            (way_sent any first (get_or pushed k []) (get_or held k []) (number_at start k) (number_at first_sent k) g h
+            (λ below. rw number_k (way_sent any first (get_or pushed k []) (get_or held k []) (number_at start k)
+            (number_at first_sent k) g h
             (of_place k l.items) r refl record_is (rw grant at (l.places_are k lt))))
-            (λ i ne below. subst (λ (f : Option ℕ). IsOnWay any first (get_or pushed i []) (get_or held i [])
-            (number_at start i) f (grant_at s.grants i) (of_place i l.items))
-            (sym (put_there first_sent k i (or_else (number_at first_sent k) position) None ne))
+            (λ i ne below. rw (put_there first_sent k i (or_else (number_at first_sent k) position) None ne)
             (l.places_are i below));
         room = length-set first_sent k _ ∙ l.room;
       }
 
   -- once a packet was requested
   pub sent_link : (s : State) (first_sent : Numbers) (way : List ℕ) (k : ℕ) → k < length places → length places ≤ 16
-      → ((w : Window) (n : ℕ) (r : List ℕ) → slice_get windows k ≡ Some w → record_at w n ≡ Some r → length r ≡ 512)
+      → ((w : Window) (n : ℕ) (r : List ℕ) → slice_get windows k ≡ Some w → record_at w n ≡ Some r
+      → IsOfPlace places (Carried k n r))
       → Linked s first_sent way
       → Linked (sent windows s k).0 (first_after first_sent s.grants k (sent windows s k).1)
       (way ++ sent_bytes (sent windows s k).1)
-  sent_link s first_sent way k lt most long l =
+  sent_link s first_sent way k lt most of l =
       let waits : Linked s first_sent (way ++ []) = nothing_sent s first_sent way s (λ b. b) refl l in
       by_sent windows s k (Goes first_sent s.grants k way) waits waits
       (λ phase. nothing_sent s first_sent way (at Closed s.grants) (λ b. absurd b) refl l)
       (λ phase. stays_on s first_sent way (at Closed s.grants) (Finished ∷ []) (codes "END") (λ b. absurd b) refl refl
-      tt (λ k. refl) l)
+      (tt, tt) (λ k. refl) l)
       (λ g w r phase grant here is. record_sent s first_sent way k g w r lt most phase grant here
-      (long w g.position r here is) is l)
+      (of w g.position r here is) is l)

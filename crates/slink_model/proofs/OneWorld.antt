@@ -1,8 +1,7 @@
 -- The steps of a schedule lead to one world.
 use Rattle.slink_model.proofs.Pushed.{IsShown, Rings, opening_rings, rings_next}
 use Rattle.std.proofs.Common.{◌≡◌, ℕ, ◌<◌, inl, inr, refl, sym, ap, subst, ◌∙◌, List, [], ◌∷◌, length, take}
-use Rattle.std.proofs.Common.{Option, Some, None, slice_get}
-use Rattle.slink_wire.specs.Place.{Fields, IsField}
+use Rattle.std.proofs.Common.{Option, Some, None}
 use Rattle.slink_feed.specs.declared.dialogue.Stage.{Stage}
 use Rattle.slink_feed.specs.declared.dialogue.Stage.TheVariants.{Unlinked, Ended}
 use Rattle.slink_model.specs.declared.world.Setup.{Setup}
@@ -20,7 +19,9 @@ use Rattle.slink_model.specs.World.{AllHappen, Both, Connects, Delivers, Differ,
 use Rattle.slink_model.specs.World.{opening}
 use Rattle.slink_feed.proofs.Closing.{held_same, states_same}
 use Rattle.slink_feed.proofs.OneReading.{seen_same}
-use Rattle.slink_model.proofs.CountedWorld.{AreCounts, IsWorld, beside, kept_counted, linked_anew, next_world}
+use Rattle.slink_model.specs.Spared.{HaveCodes}
+use Rattle.slink_model.proofs.CountedWorld.{no_link}
+use Rattle.slink_model.proofs.CountedWorld.{AreCounts, IsWorld, a_link, beside, kept_counted, linked_anew, next_world}
 use Rattle.slink_model.proofs.CountedWorld.{opening_world}
 use Rattle.slink_model.proofs.ReadAll.{linked_or}
 use Rattle.slink_model.proofs.Pushed.{AreOf, each_of}
@@ -39,8 +40,7 @@ none_kept Unlinked kept over begun = begun
 none_kept (Ended ending) kept over begun = begun
 none_kept stage kept over begun = absurd (over tt)
 
-module _ (setup : Setup) (differ : Differ setup.places.items) (codes : (k : ℕ) (p : Fields × Option ℕ)
-    → slice_get setup.places.items k ≡ Some p → IsField 5 p.0.station × IsField 2 p.0.network) where
+module _ (setup : Setup) (differ : Differ setup.places.items) (codes : HaveCodes setup.places.items) where
   abbrev places : Places
   places = setup.places.items
 
@@ -50,12 +50,8 @@ module _ (setup : Setup) (differ : Differ setup.places.items) (codes : (k : ℕ)
   -- A counted world is the world of one, but for what the client has kept, which its link decides.
   one_link : (client : Listening) (q : Option CountedLink) (o p : Option LinkState)
       → AreCounts setup differ codes client q o → AreCounts setup differ codes client q p → o ≡ p
-  one_link client None None None a b = refl
-  one_link client None None (Some m) a b = absurd b
-  one_link client None (Some l) p a b = absurd a
-  one_link client (Some c) None p a b = absurd a
-  one_link client (Some c) (Some l) None a b = absurd b
-  one_link client (Some c) (Some l) (Some m) a b =
+  one_link client q o p no_link no_link = refl
+  one_link client q o p (a_link c l a) (a_link d m b) =
       let session : l.session ≡ m.session = states_same l.session m.session (a.session ∙ sym b.session)
       (held_same l.session.held m.session.held (take c.taken c.written) a.held b.held) in
       ap (λ (x : LinkState). Some x) (links_same l m session (a.first_sent ∙ sym b.first_sent)
@@ -75,10 +71,9 @@ module _ (setup : Setup) (differ : Differ setup.places.items) (codes : (k : ℕ)
   one_kept : (a b : Listening) (q : Option CountedLink) (l m : LinkState) → a.talk ≡ b.talk
       → IsBegun a.talk.stage a.kept → IsBegun b.talk.stage b.kept → AreCounts setup differ codes a q (Some l)
       → AreCounts setup differ codes b q (Some m) → a.kept ≡ b.kept
-  one_kept a b None l m same p q x y = absurd x
-  one_kept a b (Some c) l m same p q x y = elim (linked_or a.talk.stage) [
+  one_kept a b o l m same p q (a_link c n x) (a_link d k y) = elim (linked_or a.talk.stage) [
     | inl there ↦ kept_counted setup differ codes a c l x there
-        ∙ sym (kept_counted setup differ codes b c m y (subst (λ (t : Talk). IsLinked t.stage) same there))
+        ∙ sym (kept_counted setup differ codes b d m y (subst (λ (t : Talk). IsLinked t.stage) same there))
     | inr over ↦ none_kept a.talk.stage a.kept over p
         ∙ sym (none_kept b.talk.stage b.kept (λ on. over (subst (λ (t : Talk). IsLinked t.stage) (sym same) on)) q)
   ]

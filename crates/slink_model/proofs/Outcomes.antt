@@ -2,7 +2,7 @@
 use Rattle.slink_model.proofs.Items.{mark, mark_of, marked}
 use Rattle.std.proofs.Common.{◌≡◌, ℕ, ◌+◌, ◌%◌, ◌^◌, inl, inr, refl, sym, ap, subst, ◌∙◌, arith, Bool, true, false}
 use Rattle.std.proofs.Common.{List, [], ◌∷◌, ◌++◌, length, take, drop, take_at, drop_at, Option, Some}
-use Rattle.std.proofs.Common.{None, codes, bytes_eq, nat_eq, ◌==◌, ◌&&◌, ◌||◌, if◌then◌else◌}
+use Rattle.std.proofs.Common.{None, codes, bytes_eq, nat_eq, ◌&&◌, ◌||◌, if◌then◌else◌}
 use Rattle.std.specs.List.{starts_with}
 use Rattle.std.proofs.lemmas.Bool.Decides.{eqb_tells}
 use Rattle.std.proofs.lemmas.List.{take-append-le}
@@ -21,11 +21,13 @@ use Rattle.slink_feed.specs.declared.dialogue.Stage.TheVariants.{Station, Number
 use Rattle.slink_feed.specs.declared.dialogue.Wanted.{Wanted}
 use Rattle.slink_feed.specs.Cutting.{IsWhole}
 use Rattle.slink_feed.specs.Dialogue.{Talk, Whole, Reply, Packet, End, Garbage, answer_of, at_packet, place_of, ended}
-use Rattle.slink_feed.specs.Dialogue.{event_of, is_ahead, is_taken, read, read_at, if_wanted, next_at, requests_number}
+use Rattle.slink_feed.specs.Dialogue.{event_of, is_ahead, read, read_at, if_wanted, next_at, requests_number}
 use Rattle.slink_feed.specs.Dialogue.{foreign_by, heard, requests_place, to_answer, to_place, reported, want_at}
 use Rattle.slink_feed.specs.Dialogue.{with_next}
 use Rattle.slink_feed.specs.Listening.{Brings, Listening, begun, whole}
-use Rattle.slink_model.specs.Ties.{AreWhole, Item, Accepted, Carried, Outcome, ends, says}
+use Rattle.slink_feed.proofs.Prefixed.{wanted_reported}
+use Rattle.std.proofs.lemmas.Option.{same_Some}
+use Rattle.slink_model.specs.Ties.{AreOfPlace, Item, Places, Accepted, Carried, Outcome, ends, says}
 use Rattle.slink_model.specs.Ties.{takes, reported_of, waits, way_bytes}
 use Rattle.slink_feed.proofs.Prefixed.{packet_long}
 
@@ -57,7 +59,7 @@ pub place_written : (o : Option Wanted) (k : ℕ) (t : Talk) → ((to_place o k 
 place_written None k t = (refl, refl)
 place_written (Some w) k t = (refl, refl)
 
-module _ (t : Talk) (bytes way : List ℕ) (new : Listening) (e : Event) (plain : t.holes ≡ false) where
+module _ (places : Places) (t : Talk) (bytes way : List ℕ) (new : Listening) (e : Event) (plain : t.holes ≡ false) where
   -- the link is ended
   has_ended : (items : List Item) (ending : Ending) → ended ending t ≡ (new.talk, e) → new.kept ≡ []
       → Outcome t.wants items bytes way new e
@@ -76,20 +78,22 @@ module _ (t : Talk) (bytes way : List ℕ) (new : Listening) (e : Event) (plain 
       absurd (let e : 20299 ≡ mark i = ap (λ b. mark_of (take 2 b)) h ∙ marked i rest in omega (arith, e))
 
   -- only a packet begins so
-  first_carried : (items : List Item) (n : ℕ) (r : List ℕ) → AreWhole items → IsPacket bytes n r → length bytes ≡ 520
+  first_carried : (items : List Item) (n : ℕ) (r : List ℕ) → AreOfPlace places items → IsPacket bytes n r
+      → length bytes ≡ 520
       → bytes ++ way ≡ way_bytes items → take 2 (way_bytes items) ≡ codes "SL"
       → (k m : ℕ) × (rest : List Item) × (items ≡ Carried k m r ∷ rest) × (way ≡ way_bytes rest) × (n ≡ m % 2 ^ 24)
   first_carried [] n r are is long h prefix = absurd (let e : 0 ≡ 21324 = ap mark_of prefix in omega (arith, e))
   first_carried (Carried k m x ∷ rest) n r are is long h prefix =
       let cut = same_cut bytes way (packet_bytes (m % 2 ^ 24) x) (way_bytes rest)
-      (long ∙ sym (packet_long (m % 2 ^ 24) x are.0)) h in
+      (long ∙ sym (packet_long (m % 2 ^ 24) x are.0.2)) h in
       let one = one_packet bytes n (m % 2 ^ 24) r x is
       (subst (λ b. IsPacket b (m % 2 ^ 24) x) (sym cut.0) (read_back (m % 2 ^ 24) x (omega arith))) in
       (k, m, rest, ap (λ y. Carried k m y ∷ rest) (sym one.1), cut.1, one.0)
   first_carried (i ∷ rest) n r are is long h prefix =
       absurd (let e : mark i ≡ 21324 = sym (marked i rest) ∙ ap mark_of prefix in omega (arith, e))
 
-  carried_first : (items : List Item) (n : ℕ) (r : List ℕ) → AreWhole items → IsPacket bytes n r → length bytes ≡ 520
+  carried_first : (items : List Item) (n : ℕ) (r : List ℕ) → AreOfPlace places items → IsPacket bytes n r
+      → length bytes ≡ 520
       → bytes ++ way ≡ way_bytes items
       → (k m : ℕ) × (rest : List Item) × (items ≡ Carried k m r ∷ rest) × (way ≡ way_bytes rest) × (n ≡ m % 2 ^ 24)
   carried_first items n r are is long h =
@@ -115,8 +119,7 @@ module _ (t : Talk) (bytes way : List ℕ) (new : Listening) (e : Event) (plain 
       → ((w : ℕ) → next_at t.wants j ≡ Some w → n ≡ w) → reported j n r t ≡ (new.talk, e) → new.kept ≡ []
       → Outcome t.wants items bytes way new e
   has_reported items n j r k m rest is left number at wanted read none =
-      let wants : new.talk.wants ≡ with_next t.wants j ((n + 1) % 2 ^ 24) =
-      sym (ap (λ (p : Talk × Event). p.0.wants) read) in
+      let wants = sym (ap (λ (p : Talk × Event). p.0.wants) read) in
       let event : e ≡ events.Record j n r = sym (ap (λ (p : Talk × Event). p.1) read) in
       takes k j m r rest is left at (λ w next. sym number ∙ wanted w next)
       (wants ∙ ap (λ x. with_next t.wants j ((x + 1) % 2 ^ 24)) number) none
@@ -128,36 +131,27 @@ module _ (t : Talk) (bytes way : List ℕ) (new : Listening) (e : Event) (plain 
       → next_at t.wants j ≡ o
       → if_wanted o j n r t ≡ (new.talk, e) → new.kept ≡ [] → Outcome t.wants items bytes way new e
   has_wanted items n j r k m rest None is left number at next read none =
-      has_reported items n j r k m rest is left number at (λ w some. absurd (let bad : None ≡ Some w =
-      sym next ∙ some in
+      has_reported items n j r k m rest is left number at (λ w some. absurd (let bad = sym next ∙ some in
       cc bad)) read none
-  has_wanted items n j r k m rest (Some want) is left number at next read none =
-      let taken : (b : Bool) → (n == want) ≡ b → is_taken t.holes want n ≡ b || (false && is_ahead want n) =
-      λ b same. ap (λ (x : Bool). x || (t.holes && is_ahead want n)) same
-      ∙ ap (λ (h : Bool). b || (h && is_ahead want n)) plain in
-      elim (eqb_tells n want) [
-        | inl same ↦ has_reported items n j r k m rest is left number at (λ w some. let both : Some want ≡ Some w =
-            sym next
-            ∙ some in let one : want ≡ w = cc both in same.1 ∙ one)
-            (ap (λ (b : Bool). if b then reported j n r t else ended (endings.Gap j want n) t) (sym (taken true same.0))
-            ∙ read) none
-        | inr other ↦ has_ended items (endings.Gap j want n)
-            (ap (λ (b : Bool). if b then reported j n r t else ended (endings.Gap j want n) t)
-            (sym (taken false other.0))
-            ∙ read) none
-      ]
+  has_wanted items n j r k m rest (Some want) is left number at next read none = elim (eqb_tells n want) [
+    | inl same ↦ has_reported items n j r k m rest is left number at
+        (λ w some. same.1 ∙ same_Some want w (sym next ∙ some))
+        (sym (wanted_reported (Some want) j n r t same.1) ∙ read) none
+    | inr other ↦ has_ended items (endings.Gap j want n) (ap (λ (b : Bool). if b then reported j n r t else ended
+        (endings.Gap j want n) t) (sym (ap (λ (x : Bool). x || (t.holes && is_ahead want n)) other.0
+        ∙ ap (λ (h : Bool). false || (h && is_ahead want n)) plain)) ∙ read) none
+  ]
 
   -- a packet that is read
-  has_packet : (items : List Item) (n : ℕ) (r : List ℕ) (o : Option ℕ) → AreWhole items → IsPacket bytes n r
+  has_packet : (items : List Item) (n : ℕ) (r : List ℕ) (o : Option ℕ) → AreOfPlace places items → IsPacket bytes n r
       → length bytes ≡ 520 → bytes ++ way ≡ way_bytes items → place_of t.wants r ≡ o
       → at_packet o n r t ≡ (new.talk, e) → new.kept ≡ [] → Outcome t.wants items bytes way new e
   has_packet items n r None are is long h at read none = has_ended items (foreign_by r) read none
   has_packet items n r (Some j) are is long h at read none =
-      let top : (k m : ℕ) × (rest : List Item) × (items ≡ Carried k m r ∷ rest) × (way ≡ way_bytes rest)
-      × (n ≡ m % 2 ^ 24) = carried_first items n r are is long h in
+      let top = carried_first items n r are is long h in
       has_wanted items n j r top.0 top.1 top.2 (next_at t.wants j) top.3 top.4 top.5 at refl read none
 
-  has_whole : (stage : Stage) (items : List Item) (w : Whole) → AreWhole items → bytes ++ way ≡ way_bytes items
+  has_whole : (stage : Stage) (items : List Item) (w : Whole) → AreOfPlace places items → bytes ++ way ≡ way_bytes items
       → IsWhole stage bytes w → read_at stage t w ≡ (new.talk, e) → new.kept ≡ []
       → Outcome t.wants items bytes way new e
   has_whole (Station k) items (Reply line) are h is read none =
@@ -174,9 +168,11 @@ module _ (t : Talk) (bytes way : List ℕ) (new : Listening) (e : Event) (plain 
   has_whole stage items w are h is read none = absurd is
 
 -- what comes of bytes, with those that were kept
-pub outcome : (t : Talk) (bytes way : List ℕ) (new : Listening) (e : Event) → t.holes ≡ false → (items : List Item)
-    → AreWhole items → bytes ++ way ≡ way_bytes items → Brings t bytes new e → Outcome t.wants items bytes way new e
-outcome t bytes way new e plain items are h (whole w is read none) =
-    has_whole (heard w t) bytes way new e plain t.stage items w are h is read none
-outcome t bytes way new e plain items are h (begun is same quiet) =
+pub outcome : (places : Places) (t : Talk) (bytes way : List ℕ) (new : Listening) (e : Event) → t.holes ≡ false →
+    (items : List Item)
+    → AreOfPlace places items → bytes ++ way ≡ way_bytes items → Brings t bytes new e
+    → Outcome t.wants items bytes way new e
+outcome places t bytes way new e plain items are h (whole w is read none) =
+    has_whole places (heard w t) bytes way new e plain t.stage items w are h is read none
+outcome places t bytes way new e plain items are h (begun is same quiet) =
     waits (ap (λ (x : Listening). x.talk.wants) same) (ap (λ (x : Listening). x.kept) same) (ap reported_of quiet)

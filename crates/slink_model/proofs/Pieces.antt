@@ -1,7 +1,7 @@
 -- Bytes that are taken piece by piece.
-use Rattle.std.proofs.Common.{◌≡◌, ℕ, ◌+◌, ◌≤◌, zero, suc, refl, sym, ap, subst, ◌∙◌, arith, List, [], ◌∷◌, ◌++◌}
+use Rattle.std.proofs.Common.{◌≡◌, ℕ, ◌+◌, ◌≤◌, sym, ap, subst, ◌∙◌, List, [], ◌++◌}
 use Rattle.std.proofs.Common.{append-nil, length, take, take-append-drop, drop}
-use Rattle.std.proofs.lemmas.List.{drop_all}
+use Rattle.std.proofs.lemmas.List.{drop-drop, drop_all}
 use Rattle.slink_wire.specs.declared.reply.Reply.{Reply}
 use Rattle.slink_wire.specs.Reply.{reply_bytes}
 use Rattle.slink_feed.specs.Listening.{IsLinked}
@@ -9,19 +9,11 @@ use Rattle.slink_feed.specs.Serving.{Serves, SessionState, Takes, none_served, p
 use Rattle.slink_feed.specs.Window.{Window}
 use Rattle.slink_model.specs.World.{Reads, Numbers, Taking, none_read, piece_lost}
 
-nothing : (used : ℕ) → ◌≡◌ {A = List ℕ} (take used []) []
-nothing zero = refl
-nothing (suc n) = refl
-
 -- the piece that begins at an offset, and the rest after it
 pub at_offset : (bytes : List ℕ) (start used : ℕ)
     → drop start bytes ≡ take used (drop start bytes) ++ drop (start + used) bytes
-at_offset bytes zero used = let none : zero + used ≡ used = omega arith in
-    sym (take-append-drop used bytes) ∙ ap (λ n. take used bytes ++ drop n bytes) (sym none)
-at_offset [] (suc n) used = let more : suc n + used ≡ suc (n + used) = omega arith in
-    sym (ap (λ xs. xs ++ drop (suc n + used) []) (nothing used) ∙ ap (λ k. drop k []) more)
-at_offset (b ∷ bs) (suc n) used = let more : suc n + used ≡ suc (n + used) = omega arith in at_offset bs n used
-    ∙ ap (λ k. take used (drop n bs) ++ drop k (b ∷ bs)) (sym more)
+at_offset bytes start used = sym (take-append-drop used (drop start bytes))
+    ∙ ap (λ b. take used (drop start bytes) ++ b) (drop-drop used start bytes)
 
 pub serves_more : (feed : List Window) (s now last : SessionState) (bytes : List ℕ) (start used : ℕ)
     (way on all : List ℕ)

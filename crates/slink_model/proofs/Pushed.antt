@@ -1,9 +1,9 @@
 -- The rings show what was pushed, and that is what the steps append.
 use Rattle.slink_feed.proofs.Items.{one_value, same_or_not, set_here, set_there}
 use Rattle.slink_feed.proofs.Items.{drop_none, keep_more, get_drop, within_is}
-use Rattle.slink_feed.specs.Window.{Window, with_record, window}
+use Rattle.slink_feed.specs.Window.{Window, with_record}
 use Rattle.slink_model.specs.Pushed.{appended, appended_by}
-use Rattle.slink_model.specs.Slice.{IsSchedule, IsSound}
+use Rattle.slink_model.specs.Slice.{IsSound}
 use Rattle.slink_model.specs.Ties.{AreOfPlaces, AreShown, AreSound}
 use Rattle.slink_model.specs.Ties.{Places}
 use Rattle.slink_model.specs.World.{AllHappen, Happens, IsOf}
@@ -75,21 +75,11 @@ sound_more place xs b long bears sound i r h = elim (get_last xs b i r h) [
 shown_more : (setup : Setup) (p : Fields × Option ℕ) (pushed : List (List ℕ)) (b : List ℕ)
     → with_record (shown_of setup p pushed) b ≡ shown_of setup p (pushed ++ b ∷ [])
 shown_more setup p pushed b =
-    ap (λ (rs : List (List ℕ)). record {
-      place = p.0;
-      capacity = setup.capacity;
-      records = rs;
-      next = setup.first + length pushed + 1;
-    }) (keep_more setup.capacity pushed b)
-    ∙ ap (λ n. record {
-      place = p.0;
-      capacity = setup.capacity;
-      records = window setup.capacity (pushed ++ b ∷ []);
-      next = n;
-    }) (let e : setup.first + length pushed + 1 ≡ setup.first + length (pushed ++ b ∷ []) = omega (
+    let e : setup.first + length pushed + 1 ≡ setup.first + length (pushed ++ b ∷ []) = omega (
       arith,
       length-append pushed (b ∷ []),
-    ) in e)
+    ) in
+    rw (keep_more setup.capacity pushed b, e) refl
 
 all_more : (setup : Setup) (ps : Places) (pushed : Lists) (k : ℕ) (b : List ℕ) (v : Window)
     → slice_get (shown_all setup ps pushed) k ≡ Some v
@@ -105,17 +95,8 @@ all_more setup (p ∷ ps) (f ∷ fs) (suc k) b v here = ap (λ ws. shown_of setu
 opening_shown : (setup : Setup) (ps : Places) → map (empty_window setup) ps ≡ shown_all setup ps (map (λ p. []) ps)
 opening_shown setup [] = refl
 opening_shown setup (p ∷ ps) =
-    let one : empty_window setup p ≡ shown_of setup p [] =
-    ap (λ (rs : List (List ℕ)). record {
-      place = p.0;
-      capacity = setup.capacity;
-      records = rs;
-      next = setup.first;
-    }) (sym (drop_none (0 - setup.capacity)))
-    ∙ ap (λ n. record { place = p.0; capacity = setup.capacity; records = window setup.capacity []; next = n })
-    (let e : setup.first ≡ setup.first + length {A = List ℕ} [] = omega arith in e) in
-    ap (λ (w : Window). w ∷ map (empty_window setup) ps) one
-    ∙ ap (λ ws. shown_of setup p [] ∷ ws) (opening_shown setup ps)
+    let e : setup.first ≡ setup.first + length {A = List ℕ} [] = omega arith in
+    rw (drop_none (0 - setup.capacity), ← e, opening_shown setup ps) refl
 
 pub shown_at : (setup : Setup) (ps : Places) (pushed : Lists) (k : ℕ) (p : Fields × Option ℕ)
     → length pushed ≡ length ps → slice_get ps k ≡ Some p
@@ -139,28 +120,22 @@ shown_long : (setup : Setup) (ps : Places) (pushed : Lists) → length pushed �
 shown_long setup [] pushed long = refl
 shown_long setup (p ∷ ps) [] long = absurd (omega (arith, long))
 shown_long setup (p ∷ ps) (f ∷ fs) long =
-    let more : length (shown_all setup ps fs) ≡ length ps = shown_long setup ps fs (omega (arith, long)) in
-    omega (arith, more)
+    let rest : length fs ≡ length ps = omega (arith, long) in omega (arith, shown_long setup ps fs rest)
 
 pub one_more : (lists : Lists) (j k : ℕ) (b : List ℕ) → j < length lists
     → get_or (with_one lists j b) k [] ≡ get_or lists k [] ++ appended_by k (Append j b)
 one_more lists j k b lt = elim (same_or_not k j) [
-  | inl e ↦ subst (λ i. get_or (with_one lists j b) i [] ≡ get_or lists i [] ++ appended_by i (Append j b)) (sym e)
-      (set_here lists j (get_or lists j [] ++ b ∷ []) [] lt
-      ∙ ap (λ xs. get_or lists j [] ++ xs) (sym (choice_here j (b ∷ []) [])))
-  | inr ne ↦ set_there lists j k (get_or lists j [] ++ b ∷ []) [] ne
-      ∙ (sym (append-nil (get_or lists k []))
-      ∙ ap (λ xs. get_or lists k [] ++ xs) (sym (choice_there j k (b ∷ []) [] (λ e. ne (sym e)))))
+  | inl e ↦ rw (e, set_here lists j (get_or lists j [] ++ b ∷ []) [] lt, choice_here j (b ∷ []) []) refl
+  | inr ne ↦ rw (set_there lists j k (get_or lists j [] ++ b ∷ []) [] ne)
+      (rw (choice_there j k (b ∷ []) [] (λ e. ne (sym e))) (sym (append-nil (get_or lists k []))))
 ]
 
 pub each_more : (lists : Lists) (k : ℕ) (b : List ℕ) (i : ℕ) (Q : List (List ℕ) → Type 0) → k < length lists
     → Q (get_or lists i []) → (Q (get_or lists i []) → Q (get_or lists i [] ++ b ∷ []))
     → Q (get_or (with_one lists k b) i [])
 each_more lists k b i Q lt q more = elim (same_or_not i k) [
-  | inl e ↦ subst Q (sym (ap (λ y. get_or (with_one lists k b) y []) e
-      ∙ (set_here lists k (get_or lists k [] ++ b ∷ []) [] lt ∙ ap (λ y. get_or lists y [] ++ b ∷ []) (sym e))))
-      (more q)
-  | inr ne ↦ subst Q (sym (set_there lists k i (get_or lists k [] ++ b ∷ []) [] ne)) q
+  | inl e ↦ rw (e, set_here lists k (get_or lists k [] ++ b ∷ []) [] lt) (rw e at (more q))
+  | inr ne ↦ rw (set_there lists k i (get_or lists k [] ++ b ∷ []) [] ne) q
 ]
 
 module _ (setup : Setup) where
@@ -188,47 +163,34 @@ module _ (setup : Setup) where
   stays : (w u : WorldState) (step : Step) → ((k : ℕ) → appended_by k step ≡ []) → u.windows ≡ w.windows
       → u.pushed ≡ w.pushed → IsShown w → Moves w step u
   stays w u step none windows pushed s = record {
-    shown = record {
-      windows = windows ∙ (s.windows ∙ ap (shown_all setup places) (sym pushed));
-      long = ap length pushed ∙ s.long;
-    };
-    grows = λ k. ap (λ (xs : Lists). get_or xs k []) pushed
-        ∙ (sym (append-nil (get_or w.pushed k [])) ∙ ap (λ xs. get_or w.pushed k [] ++ xs) (sym (none k)));
+    shown = record { windows = rw (windows, pushed) s.windows; long = rw pushed s.long };
+    grows = λ k. rw (pushed, none k, append-nil (get_or w.pushed k [])) refl;
   }
 
   push : (w u : WorldState) (j : ℕ) (b : List ℕ) → IsOf places (Append j b) → IsShown w
       → u ≡ pushed_to w j b (slice_get w.windows j) → Moves w (Append j b) u
   push w u j b of s is =
       let v : Window = shown_of setup of.0 (get_or w.pushed j []) in
-      let becomes : u ≡ record w { windows = set w.windows j (with_record v b); pushed = with_one w.pushed j b } =
-      is ∙ ap (pushed_to w j b) (ring_at w j of.0 s of.1) in
-      let pushed : u.pushed ≡ with_one w.pushed j b = ap (λ (x : WorldState). x.pushed) becomes in
       let lt : j < length w.pushed = omega (arith, slice_get_within places j of.0 of.1, s.long) in
-      record {
+      rw (is, ring_at w j of.0 s of.1) (record {
         shown = record {
-          windows = ap (λ (x : WorldState). x.windows) becomes
-              ∙ (ap (λ (ws : List Window). set ws j (with_record v b)) s.windows
-              ∙ (all_more setup places w.pushed j b v (shown_at setup places w.pushed j of.0 s.long of.1)
-              ∙ ap (shown_all setup places) (sym pushed)));
-          long = ap length pushed ∙ (length-set w.pushed j (get_or w.pushed j [] ++ b ∷ []) ∙ s.long);
+          windows = ap (λ (ws : List Window). set ws j (with_record v b)) s.windows
+              ∙ all_more setup places w.pushed j b v (shown_at setup places w.pushed j of.0 s.long of.1);
+          long = length-set w.pushed j (get_or w.pushed j [] ++ b ∷ []) ∙ s.long;
         };
-        grows = λ k. ap (λ (xs : Lists). get_or xs k []) pushed ∙ one_more w.pushed j k b lt;
-      }
+        grows = λ k. one_more w.pushed j k b lt;
+      })
 
   pub moves : (w u : WorldState) (step : Step) → IsOf places step → IsShown w → Happens w step u → Moves w step u
   moves w u (Append j b) of s h = push w u j b of s h
-  moves w u Connect of s h = stays w u Connect (λ k. refl) (ap (λ (x : WorldState). x.windows) h.becomes)
-      (ap (λ (x : WorldState). x.pushed) h.becomes) s
-  moves w u (ToServer n) of s h = stays w u (ToServer n) (λ k. refl) (ap (λ (x : WorldState). x.windows) h.0)
-      (ap (λ (x : WorldState). x.pushed) h.0) s
+  moves w u Connect of s h = rw h.becomes (stays w _ Connect (λ k. refl) refl refl s)
+  moves w u (ToServer n) of s h = rw h.0 (stays w _ (ToServer n) (λ k. refl) refl refl s)
   moves w u (ToClient n) of s h = stays w u (ToClient n) (λ k. refl) h.windows h.pushed s
-  moves w u step of s h = stays w u step (λ k. refl) (ap (λ (x : WorldState). x.windows) h)
-      (ap (λ (x : WorldState). x.pushed) h) s
+  moves w u step of s h = rw h (stays w _ step (λ k. refl) refl refl s)
 
   all_move : (w v : WorldState) (steps : List Step) → AllByRecursion (IsOf places) steps → IsShown w
       → AllHappen w steps v → (k : ℕ) → get_or v.pushed k [] ≡ get_or w.pushed k [] ++ appended k steps
-  all_move w v [] of s run k = ap (λ (x : WorldState). get_or x.pushed k []) run
-      ∙ sym (append-nil (get_or w.pushed k []))
+  all_move w v [] of s run k = rw run (sym (append-nil (get_or w.pushed k [])))
   all_move w v (step ∷ steps) of s run k =
       let one : Moves w step run.0 = moves w run.0 step of.0 s run.1 in
       all_move run.0 v steps of.1 one.shown run.2 k
@@ -271,12 +233,6 @@ module _ (setup : Setup) where
         (λ i r h. absurd (let bad : None ≡ Some r = h in cc bad));
   }
 
-  pub rings_all : (steps : List Step) (w v : WorldState) (run : AllHappen w steps v) → AreOf places steps → Rings w
-      → Rings v
-  rings_all [] w v run of r = subst Rings (sym run) r
-  rings_all (step ∷ steps) w v run of r =
-      rings_all steps run.0 v run.2 of.2 (rings_next w run.0 step of.0 of.1 run.1 r)
-
   -- what is known of each ring
   pub are_shown : (w : WorldState) → setup.capacity ≤ 1000000 → IsShown w
       → AreShown places setup.first w.windows w.pushed
@@ -292,8 +248,7 @@ module _ (setup : Setup) where
   ringed w r = record {
     alike = alike;
     sound = λ k v here.
-        let q : (p : Fields × Option ℕ) × (slice_get places k ≡ Some p) × (v.place ≡ p.0) =
-        also_at (λ (x : Window). x.place) (λ (x : Fields × Option ℕ). x.0) (slice_get w.windows k)
+        let q = also_at (λ (x : Window). x.place) (λ (x : Fields × Option ℕ). x.0) (slice_get w.windows k)
         (slice_get places k) v (alike k) here in
         let F : List (List ℕ) = get_or w.pushed k [] in
         subst (λ (x : Window). AreSound x.place x.records)
@@ -306,11 +261,6 @@ module _ (setup : Setup) where
           (λ (p : Fields × Option ℕ). p.0) (slice_get places k)
       alike k = ap (λ (ws : List Window). option_map (λ (v : Window). v.place) (slice_get ws k)) r.shown.windows
           ∙ shown_alike setup places w.pushed k r.shown.long
-
-pub rings_after : (setup : Setup) (steps : List Step) (now : WorldState) → AllHappen (opening setup) steps now
-    → IsSchedule setup steps → Rings setup now
-rings_after setup steps now run is = rings_all setup steps (opening setup) now run
-    (each_of setup.places.items steps is.of_places is.sound) (opening_rings setup)
 
 pub pushes : (setup : Setup) (steps : List Step) (now : WorldState) → AllHappen (opening setup) steps now
     → All (IsOf setup.places.items) steps

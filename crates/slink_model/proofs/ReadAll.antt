@@ -96,10 +96,8 @@ read_all f t bytes last reads is = read_on f t.client.talk (gained t) t t.client
 pub rest_is : (f : Numbers) (start : Talk) (g : Gained) (all : List ℕ) (last : Taking)
     (h : ReadAllOf f start g all last) → IsRest (talk_after start h.reads.brought).stage (last.client.kept ++ h.lost)
 rest_is f start g all last h linked =
-    let at_last : IsLinked last.client.talk.stage =
-    subst (λ (x : Talk). IsLinked x.stage) (sym h.reads.talk) linked in
-    rw (← (ap (λ b. last.client.kept ++ b) (h.whole at_last) ∙ append-nil last.client.kept)) at
-    (subst (λ (x : Talk). IsBegun x.stage last.client.kept) h.reads.talk h.reads.is_begun)
+    let on = rw (← h.reads.talk) at linked in
+    rw (← h.reads.talk, h.whole on, append-nil last.client.kept) h.reads.is_begun
 
 -- a stage is linked, or not
 pub linked_or : (stage : Stage) → IsLinked stage ⊎ ¬ (IsLinked stage)

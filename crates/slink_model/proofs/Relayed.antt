@@ -1,13 +1,13 @@
 -- What comes of a packing that is sent through a schedule.
-use Rattle.slink_model.proofs.Pushed.{by_index, in_turn, one_at_most}
-use Rattle.std.proofs.Common.{◌≡◌, All, ◌≢◌, ℕ, ◌+◌, ◌-◌, ◌*◌, ◌/◌, ◌^◌, ◌<◌, ◌≤◌, inl, inr, zero, suc, refl, sym, ap}
+use Rattle.slink_model.proofs.Pushed.{by_index, in_turn, one_at_most, pushes}
+use Rattle.std.proofs.Common.{◌≡◌, All, ◌≢◌, ℕ, ◌-◌, ◌*◌, ◌/◌, ◌^◌, ◌<◌, ◌≤◌, inl, inr, zero, suc, refl, sym, ap}
 use Rattle.std.proofs.Common.{subst, ◌∙◌, arith, List, [], ◌∷◌, ◌++◌, append_assoc, append-nil, length, length-append}
 use Rattle.std.proofs.Common.{map, take, drop, get_or, true, false, Option, Some, None, Result, Ok, Err, IfOk}
 use Rattle.std.proofs.Common.{IfErr, slice_get, slice_range, ◌==◌}
 use Rattle.std.specs.List.{AllByRecursion, concat}
 use Rattle.std.specs.Simd.{first_chunks}
 use Rattle.std.proofs.Math.Nat.{mul-div_cancel_left}
-use Rattle.std.proofs.Math.Seq.{drop-append_seam, take-append_seam}
+use Rattle.std.proofs.lemmas.List.{drop_at, take_at}
 use Rattle.std.proofs.lemmas.List.{length-drop, length-take-le, nil_from_length}
 use Rattle.std.proofs.lemmas.Bool.Decides.{eqb_tells}
 use Rattle.mseed_record.specs.Header.{key_at}
@@ -27,7 +27,7 @@ use Rattle.slink_model.specs.Ties.{Holds}
 use Rattle.slink_feed.specs.Dialogue.{next_at}
 use Rattle.slink_model.specs.Slice.{HoldsSlices}
 use Rattle.slink_model.specs.World.{AllHappen, IsOf, WorldState, number_at, opening}
-use Rattle.slink_model.specs.Relay.{ComesThrough, IsHeldAs, IsOfChannel, IsOfOne, IsRelay, fed}
+use Rattle.slink_model.specs.Relay.{ComesThrough, IsHeldAs, IsOfChannel, IsOfOne, IsRelay, IsRelayable, fed}
 use Rattle.mseed_pack.specs.declared.options.Options.{Options}
 use Rattle.mseed_pack.specs.Fitting.{Fits}
 use Rattle.mseed_pack.specs.Packing.{IsPacking}
@@ -41,21 +41,12 @@ long_as : (rs : List (List ℕ)) → AllByRecursion (λ (r : List ℕ). length r
 long_as [] h = refl
 long_as (r ∷ rs) h =
     let first : length r ≡ 512 = h.0 in
-    let rest : length (concat rs) ≡ 512 * length rs = long_as rs h.1 in
-    let sum : length (r ++ concat rs) ≡ length r + length (concat rs) = length-append r (concat rs) in
-    omega (arith, first, rest, sum)
+    omega (arith, first, long_as rs h.1, length-append r (concat rs))
 
 cut_at : (rs : List (List ℕ)) → AllByRecursion (λ (r : List ℕ). length r ≡ 512) rs
     → first_chunks 512 (length rs) (concat rs) ≡ rs
 cut_at [] h = refl
-cut_at (r ∷ rs) h =
-    let first : take 512 (r ++ concat rs) ≡ r =
-    subst (λ (n : ℕ). take n (r ++ concat rs) ≡ r) h.0 (take-append_seam r (concat rs)) in
-    let rest : drop 512 (r ++ concat rs) ≡ concat rs =
-    subst (λ (n : ℕ). drop n (r ++ concat rs) ≡ concat rs) h.0 (drop-append_seam r (concat rs)) in
-    let more : first_chunks 512 (length rs) (drop 512 (r ++ concat rs)) ≡ rs = ap (first_chunks 512 (length rs)) rest
-    ∙ cut_at rs h.1 in
-    λ i. first i ∷ more i
+cut_at (r ∷ rs) h = rw (take_at r (concat rs) 512 h.0, drop_at r (concat rs) 512 h.0, cut_at rs h.1) refl
 
 pub cut : (rs : List (List ℕ)) (bytes : List ℕ) → AllByRecursion (λ (r : List ℕ). length r ≡ 512) rs
     → bytes ≡ concat rs → first_chunks 512 (length bytes / 512) bytes ≡ rs
@@ -64,36 +55,24 @@ cut rs bytes h e =
     ∙ mul-div_cancel_left (length rs) (omega arith) in
     ap (λ (n : ℕ). first_chunks 512 n bytes) count ∙ (ap (first_chunks 512 (length rs)) e ∙ cut_at rs h)
 
--- a key's first bytes are the network's, and the next the station's
-part_first : (xs ys : List ℕ) → length xs ≡ 2 → slice_range (xs ++ ys) 0 2 ≡ xs
-part_first xs ys e = subst (λ (n : ℕ). take n (xs ++ ys) ≡ xs) e (take-append_seam xs ys)
-
-part_second : (xs ys zs : List ℕ) → length xs ≡ 2 → length ys ≡ 5 → slice_range (xs ++ (ys ++ zs)) 2 7 ≡ ys
-part_second xs ys zs e f =
-    let rest : drop 2 (xs ++ (ys ++ zs)) ≡ ys ++ zs =
-    subst (λ (n : ℕ). drop n (xs ++ (ys ++ zs)) ≡ ys ++ zs) e (drop-append_seam xs (ys ++ zs)) in
-    ap (take 5) rest ∙ subst (λ (n : ℕ). take n (ys ++ zs) ≡ ys) f (take-append_seam ys zs)
-
 part_long : (xs : List ℕ) (i j : ℕ) → i ≤ j → j ≤ length xs → length (slice_range xs i j) ≡ j - i
 part_long xs i j low high = length-take-le (j - i) (drop i xs) (omega (arith, low, high, length-drop i xs))
 
+-- A key's first bytes are the network's, and the next the station's.
 carries_key : (b codes : List ℕ) (place : Fields) → length b ≡ 512 → key_at b ≡ codes
     → place.network ≡ slice_range codes 0 2 → place.station ≡ slice_range codes 2 7 → Bears b place
 carries_key b codes place long key network station =
-    let two : length (slice_range b 18 20) ≡ 2 = part_long b 18 20 (omega arith) (omega (arith, long)) in
-    let five : length (slice_range b 8 13) ≡ 5 = part_long b 8 13 (omega arith) (omega (arith, long)) in
-    let nested : key_at b ≡ slice_range b 18 20
-    ++ (slice_range b 8 13 ++ (slice_range b 13 15 ++ slice_range b 15 18)) =
-    append_assoc (slice_range b 18 20 ++ slice_range b 8 13) (slice_range b 13 15) (slice_range b 15 18)
-    ∙ append_assoc (slice_range b 18 20) (slice_range b 8 13) (slice_range b 13 15 ++ slice_range b 15 18) in
-    let first : slice_range (key_at b) 0 2 ≡ slice_range b 18 20 =
-    ap (λ (k : List ℕ). slice_range k 0 2) nested
-    ∙ part_first (slice_range b 18 20) (slice_range b 8 13 ++ (slice_range b 13 15 ++ slice_range b 15 18)) two in
-    let second : slice_range (key_at b) 2 7 ≡ slice_range b 8 13 =
-    ap (λ (k : List ℕ). slice_range k 2 7) nested ∙ part_second (slice_range b 18 20) (slice_range b 8 13)
-    (slice_range b 13 15 ++ slice_range b 15 18) two five in (
-      sym second ∙ (ap (λ (k : List ℕ). slice_range k 2 7) key ∙ sym station),
-      sym first ∙ (ap (λ (k : List ℕ). slice_range k 0 2) key ∙ sym network),
+    let net : List ℕ = slice_range b 18 20 in
+    let sta : List ℕ = slice_range b 8 13 in
+    let rest : List ℕ = slice_range b 13 15 ++ slice_range b 15 18 in
+    let two : length net ≡ 2 = part_long b 18 20 (omega arith) (omega (arith, long)) in
+    let five : length sta ≡ 5 = part_long b 8 13 (omega arith) (omega (arith, long)) in
+    let nested : codes ≡ net ++ (sta ++ rest) = sym key
+    ∙ (append_assoc (net ++ sta) (slice_range b 13 15) (slice_range b 15 18) ∙ append_assoc net sta rest) in
+    let after : slice_range (net ++ (sta ++ rest)) 2 7 ≡ sta =
+    ap (take 5) (drop_at net (sta ++ rest) 2 two) ∙ take_at sta rest 5 five in (
+      sym (station ∙ (ap (λ (k : List ℕ). slice_range k 2 7) nested ∙ after)),
+      sym (network ∙ (ap (λ (k : List ℕ). slice_range k 0 2) nested ∙ take_at net (sta ++ rest) 2 two)),
     )
 
 -- each record of the packing carries the schedule's station
@@ -137,10 +116,9 @@ all_of setup codes of steps rs one bears =
 
 pub fewer : (steps : List Step) (rs : List (List ℕ)) → length (fed steps rs) ≤ length steps
 fewer [] rs = omega arith
-fewer (Append k b ∷ steps) [] = let more : length (fed steps []) ≤ length steps = fewer steps [] in omega (arith, more)
-fewer (Append k b ∷ steps) (r ∷ rs) = let more : length (fed steps rs) ≤ length steps = fewer steps rs in
-    omega (arith, more)
-fewer (step ∷ steps) rs = let more : length (fed steps rs) ≤ length steps = fewer steps rs in omega (arith, more)
+fewer (Append k b ∷ steps) [] = omega (arith, fewer steps [])
+fewer (Append k b ∷ steps) (r ∷ rs) = omega (arith, fewer steps rs)
+fewer (step ∷ steps) rs = omega (arith, fewer steps rs)
 
 -- what is pushed are the first of the records
 here : (k : ℕ) (b : List ℕ) → k < 1 → appended_by 0 (Append k b) ≡ b ∷ []
@@ -188,24 +166,26 @@ between rs pushed held steps first next start of is h =
 -- they are no more than the steps
 appended_few : (steps : List Step) → length (appended 0 steps) ≤ length steps
 appended_few [] = omega arith
-appended_few (Append k b ∷ steps) =
-    let more : length (appended 0 steps) ≤ length steps = appended_few steps in
-    let one : length (appended_by 0 (Append k b)) ≤ 1 = one_at_most 0 (Append k b) in
-    let sum : length (appended 0 (Append k b ∷ steps)) ≡ length (appended_by 0 (Append k b)) + length
-    (appended 0 steps) = length-append (appended_by 0 (Append k b)) (appended 0 steps) in
-    omega (arith, more, one, sum)
-appended_few (step ∷ steps) = let more : length (appended 0 steps) ≤ length steps = appended_few steps in
-    omega (arith, more)
+appended_few (Append k b ∷ steps) = omega (
+  arith,
+  appended_few steps,
+  one_at_most 0 (Append k b),
+  length-append (appended_by 0 (Append k b)) (appended 0 steps),
+)
+appended_few (step ∷ steps) = omega (arith, appended_few steps)
 
 pub held_few : (pushed held : List (List ℕ)) (steps : List Step) (first : ℕ) (next start : Option ℕ)
     → pushed ≡ appended 0 steps → Holds first pushed next held start → length held ≤ length steps
 held_few pushed held steps first next start is h =
     let part = slice first pushed held next start h in
-    let all : length pushed ≤ length steps =
-    subst (λ (qs : List (List ℕ)). length qs ≤ length steps) (sym is) (appended_few steps) in
-    let sum : length pushed ≡ length part.before + length (held ++ part.after) =
-    ap length part.is ∙ length-append part.before (held ++ part.after) in
-    omega (arith, all, sum, length-append held part.after)
+    omega (
+      arith,
+      appended_few steps,
+      ap length is,
+      ap length part.is,
+      length-append part.before (held ++ part.after),
+      length-append held part.after,
+    )
 
 -- records that have views are records
 pub are_records : (rs : List (List ℕ)) (vs : List View) → AreViewsOf rs vs → All IsRecord rs
@@ -265,8 +245,8 @@ empty_is xs h = elim (eqb_tells (length xs) 0) [
 ]
 
 pub some_are : (xs : List (List ℕ)) → false ≡ (length xs == 0) → xs ≢ []
-some_are xs h none = absurd (let e : (length xs == 0) ≡ true = ap (λ (ys : List (List ℕ)). length ys == 0) none in
-    let bad : false ≡ true = h ∙ e in cc bad)
+some_are xs h none =
+    absurd (let bad : false ≡ true = h ∙ ap (λ (ys : List (List ℕ)). length ys == 0) none in cc bad)
 
 -- the steps that are fed
 long_reported : (rs : List (List ℕ)) → ((i : ℕ) → i < length rs → length (get_or rs i []) ≡ 512)
@@ -283,24 +263,24 @@ SayKeys = (s : Trace) (before held after : List (List ℕ)) (views : List View) 
     → AreViewsOf held views
     → AllByRecursion (λ (v : View). key_at v.bytes ≡ s.codes) views
 
-pub fed_are_of : SayKeys → (s : Trace) (setup : Setup) (of : IsOfChannel setup s.codes) (steps : List Step)
-    (rs : List (List ℕ)) (all : List Step) → ReadsAs s rs → ((i : ℕ) → i < length rs → length (get_or rs i []) ≡ 512)
-    → All IsOfOne steps
-    → all ≡ fed steps rs → All (IsOf setup.places.items) all
-fed_are_of say s setup of steps rs all reads reported one is =
+-- the steps that are fed are of the station, and few
+pub record IsFed (setup : Setup) (all : List Step) : Type 0 where
+  pub few : length all < 2 ^ 24
+  pub of_places : All (IsOf setup.places.items) all
+
+pub fed_is : SayKeys → (s : Trace) (setup : Setup) (steps : List Step) (rs : List (List ℕ)) (all : List Step)
+    → IsRelayable setup s.codes steps → ReadsAs s rs → ((i : ℕ) → i < length rs → length (get_or rs i []) ≡ 512)
+    → all ≡ fed steps rs → IsFed setup all
+fed_is say s setup steps rs all relayable reads reported is =
     let long = long_reported rs reported in
     let keys = say s [] rs [] reads.views (subst (ReadsAs s) (sym (append-nil rs)) reads) reads.are_views in
-    subst (All (IsOf setup.places.items)) (sym is)
-    (all_of setup s.codes of steps rs one (bear s setup of rs reads.views reads.are_views long keys))
-
-pub fed_few : (steps : List Step) (rs : List (List ℕ)) (all : List Step) (n : ℕ) → length steps < n
-    → all ≡ fed steps rs → length all < n
-fed_few steps rs all n lt is = let few : length (fed steps rs) ≤ length steps = fewer steps rs in
-    omega (arith, lt, few, ap length is)
-
-abbrev pub Pushes : Type 0
-Pushes = (setup : Setup) (steps : List Step) (now : WorldState) → AllHappen (opening setup) steps now
-    → All (IsOf setup.places.items) steps → (k : ℕ) → get_or now.pushed k [] ≡ appended k steps
+    let few : length (fed steps rs) ≤ length steps = fewer steps rs in
+    record {
+      few = omega (arith, relayable.few, few, ap length is);
+      of_places = subst (All (IsOf setup.places.items)) (sym is)
+          (all_of setup s.codes relayable.channel steps rs relayable.each
+          (bear s setup relayable.channel rs reads.views reads.are_views long keys));
+    }
 
 -- what is held of the one station
 holds_first : (setup : Setup) (codes : List ℕ) → IsOfChannel setup codes → (w : WorldState)
@@ -310,24 +290,21 @@ holds_first : (setup : Setup) (codes : List ℕ) → IsOfChannel setup codes →
 holds_first setup codes of w holds = holds.slice 0 (let e : length setup.places.items ≡ 1 = ap length of.places in
     omega (arith, e))
 
-pub held_among : Pushes → (s : Trace) (setup : Setup) → IsOfChannel setup s.codes
-    → (steps : List Step) (rs : List (List ℕ)) (all : List Step) (w : WorldState) (held : List (List ℕ)) → ReadsAs s rs
-    → All IsOfOne steps
-    → all ≡ fed steps rs → All (IsOf setup.places.items) all → AllHappen (opening setup) all w
-    → HoldsSlices setup.places.items setup.first w → held ≡ get_or w.held 0 [] → IsAmong s rs held
-held_among pushes s setup of steps rs all w held reads one is ofs run holds same =
-    let pushed : get_or w.pushed 0 [] ≡ appended 0 (fed steps rs) = pushes setup all w run ofs 0 ∙ ap (appended 0) is in
-    let cut = between rs _ _ _ _ _ _ (in_turn IsOfOne steps one) pushed (holds_first setup s.codes of w holds) in
-    (cut.before, cut.after, cut.is ∙ ap (λ (hs : List (List ℕ)). cut.before ++ (hs ++ cut.after)) (sym same), reads)
-
-pub held_are_few : Pushes → (setup : Setup) (codes : List ℕ) → IsOfChannel setup codes
-    → (all : List Step) (w : WorldState) (held : List (List ℕ)) (n : ℕ) → length all < n
-    → All (IsOf setup.places.items) all → AllHappen (opening setup) all w
-    → HoldsSlices setup.places.items setup.first w → held ≡ get_or w.held 0 [] → length held < n
-held_are_few pushes setup codes of all w held n lt ofs run holds same =
-    let few : length (get_or w.held 0 []) ≤ length all =
-    held_few _ _ all _ _ _ (pushes setup all w run ofs 0) (holds_first setup codes of w holds) in
-    omega (arith, lt, few, ap length same)
+-- Some of the records are held, and few.
+pub held_is : SayKeys → (s : Trace) (setup : Setup) (steps : List Step) (rs : List (List ℕ)) (all : List Step)
+    (w : WorldState) (held : List (List ℕ)) → IsRelayable setup s.codes steps → ReadsAs s rs
+    → ((i : ℕ) → i < length rs → length (get_or rs i []) ≡ 512) → all ≡ fed steps rs → AllHappen (opening setup) all w
+    → (AllHappen (opening setup) all w → length all < 2 ^ 24 → HoldsSlices setup.places.items setup.first w)
+    → held ≡ get_or w.held 0 [] → IsAmong s rs held × (length held < 2 ^ 24)
+held_is say s setup steps rs all w held relayable reads reported is run brief same =
+    let known = fed_is say s setup steps rs all relayable reads reported is in
+    let pushed : get_or w.pushed 0 [] ≡ appended 0 all = pushes setup all w run known.of_places 0 in
+    let first = holds_first setup s.codes relayable.channel w (brief run known.few) in
+    let cut = between rs _ _ _ _ _ _ (in_turn IsOfOne steps relayable.each) (pushed ∙ ap (appended 0) is) first in
+    let few : length (get_or w.held 0 []) ≤ length all = held_few _ _ all _ _ _ pushed first in (
+      (cut.before, cut.after, cut.is ∙ ap (λ (hs : List (List ℕ)). cut.before ++ (hs ++ cut.after)) (sym same), reads),
+      omega (arith, known.few, few, ap length same),
+    )
 
 pub came : (s : Trace) (setup : Setup) (steps : List Step) (rs : List (List ℕ)) (all : List Step) (w : WorldState)
     (held : List (List ℕ)) (t : Option Trace) → all ≡ fed steps rs → AllHappen (opening setup) all w

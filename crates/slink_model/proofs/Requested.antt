@@ -3,16 +3,15 @@ use Rattle.std.proofs.Common.{◌≡◌, ℕ, ◌+◌, ◌<◌, zero, suc, refl,
 use Rattle.std.proofs.Common.{[], ◌∷◌, bytes_eq, Option, Some, None, option_map, slice_get, if◌then◌else◌}
 use Rattle.std.specs.List.{position_from}
 use Rattle.std.proofs.lemmas.Slice.Eq.{bytes_eq-Decides}
-use Rattle.slink_wire.specs.declared.lines.What.TheVariants.{Line}
+use Rattle.slink_wire.specs.declared.lines.LineOutcome.TheVariants.{Line}
 use Rattle.slink_wire.specs.declared.reply.Reply.{Reply}
 use Rattle.slink_wire.specs.declared.request.Request.{Request}
-use Rattle.slink_wire.specs.declared.request.Request.TheVariants.{Station, End}
 use Rattle.slink_wire.specs.Command.{IsCommand}
-use Rattle.slink_wire.specs.Place.{Fields, IsField, matches}
+use Rattle.slink_wire.specs.Place.{Fields, matches}
 use Rattle.slink_wire.specs.Request.{IsShort, request_line, requested}
 use Rattle.slink_wire.specs.Written.{IsLine}
 use Rattle.slink_wire.proofs.RequestLines.{data_line, fetch_line}
-use Rattle.slink_wire.proofs.Requests.{data_written, end_written, fetch_written, station_written}
+use Rattle.slink_wire.proofs.Requests.{data_written, fetch_written}
 use Rattle.slink_wire.proofs.Written.{one_command}
 use Rattle.slink_feed.specs.declared.grant.Mode.{Mode}
 use Rattle.slink_feed.specs.declared.grant.Mode.TheVariants as modes
@@ -30,17 +29,10 @@ number_line modes.Data number = data_line number
 number_line modes.Fetch number = fetch_line number
 
 -- the commands of these lines
-pub station_command : (place : Fields) → IsField 5 place.station → IsField 2 place.network
-    → IsCommand (request_line (Station place)) (requested (Station place))
-station_command place p q = station_written place.station place.network p q
-
 pub number_command : (mode : Mode) (number : Option ℕ) → IsShort number
     → IsCommand (request_line (numbered mode number)) (requested (numbered mode number))
 number_command modes.Data number short = data_written number short
 number_command modes.Fetch number short = fetch_written number short
-
-pub end_command : IsCommand (request_line End) (requested End)
-end_command = end_written
 
 -- what is answered to the line of a request
 pub request_answered : (feed : List Window) (s new : State) (items : List ℕ) (request : Request) (reply : Reply)
@@ -78,8 +70,7 @@ matches_itself place = and_from (bytes_eq place.station place.station) (bytes_eq
 
 matched : (place other : Fields) → matches place other.station (Some other.network) ≡ true → place ≡ other
 matched place other h =
-    let parts : (bytes_eq place.station other.station ≡ true) × (bytes_eq place.network other.network ≡ true) =
-    and_parts (bytes_eq place.station other.station) (bytes_eq place.network other.network) h in
+    let parts = and_parts (bytes_eq place.station other.station) (bytes_eq place.network other.network) h in
     ap (λ (s : List ℕ). record { station = s; network = place.network })
     ((bytes_eq-Decides place.station other.station).0 parts.0)
     ∙ ap (λ (n : List ℕ). record { station = other.station; network = n })
@@ -98,8 +89,7 @@ station_found places feed k p differ alike here =
     first_found (λ (v : Window). matches v.place p.0.station (Some p.0.network)) 0 k feed ring.0 ring.1
     (subst (λ (q : Fields). matches q p.0.station (Some p.0.network) ≡ true) ring.2 (matches_itself p.0))
     (λ j w lt at. false_from_ne_true (matches w.place p.0.station (Some p.0.network)) (λ is.
-    let q : (r : Fields × Option ℕ) × (slice_get places j ≡ Some r) × (w.place ≡ r.0) =
-    also_at (λ (v : Window). v.place) (λ (r : Fields × Option ℕ). r.0) (slice_get feed j) (slice_get places j) w
+    let q = also_at (λ (v : Window). v.place) (λ (r : Fields × Option ℕ). r.0) (slice_get feed j) (slice_get places j) w
     (alike j) at in
     let same : j ≡ k = differ j k q.0 p q.1 here (sym q.2 ∙ matched w.place p.0 is) in
     omega (arith, lt, same)))

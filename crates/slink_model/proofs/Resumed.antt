@@ -2,26 +2,24 @@
 use Rattle.std.proofs.Common.{length-drop}
 use Rattle.slink_feed.proofs.GrantedAfter.{granted_lost, granted_there}
 use Rattle.slink_model.specs.Ties.{AreShown}
-use Rattle.slink_model.proofs.Pushed.{Rings, are_shown, rings_after, rings_long}
+use Rattle.slink_model.proofs.Pushed.{are_shown, rings_long}
 use Rattle.std.proofs.Common.{◌≡◌, ℕ, ◌+◌, ◌-◌, ◌%◌, ◌^◌, ◌<◌, ◌≤◌, inl, inr, sym, ap, subst, ◌∙◌, arith, ◌&&◌}
 use Rattle.std.proofs.Common.{List, [], length, get_or, Option, Some, None, slice_get, nat_le, if◌then◌else◌}
 use Rattle.std.proofs.lemmas.Bool.Decides.{leb_tells}
 use Rattle.std.specs.Option.{option_and_then}
-use Rattle.slink_feed.specs.declared.grant.Grant.{Grant}
 use Rattle.slink_feed.specs.declared.grant.Mode.{Mode}
 use Rattle.slink_model.specs.declared.world.Setup.{Setup}
 use Rattle.slink_model.specs.declared.world.Step.{Step}
 use Rattle.slink_feed.specs.Dialogue.{next_at}
 use Rattle.slink_feed.specs.Grant.{grant_of}
-use Rattle.slink_feed.specs.Session.{granted, grant_at}
+use Rattle.slink_feed.specs.Session.{granted}
 use Rattle.slink_model.specs.Slice.{IsCarried, IsSchedule, LackFew, LacksFew, Resumes, resumed}
-use Rattle.slink_model.specs.Ties.{AreNext, Holds, IsLinkTied, IsOnWay, Places, WorldTies, of_place}
-use Rattle.slink_feed.specs.Window.{Shows, Window, oldest_of}
-use Rattle.slink_model.specs.World.{AllHappen, LinkState, WorldState, number_at, opening}
+use Rattle.slink_model.specs.Ties.{IsLinkTied, Places, WorldTies}
+use Rattle.slink_feed.specs.Window.{Window, oldest_of}
+use Rattle.slink_model.specs.World.{AllHappen, LinkState, WorldState, opening}
 use Rattle.slink_model.proofs.Items.{held_to}
 use Rattle.slink_feed.proofs.Items.{one_value}
-use Rattle.slink_model.proofs.Linked.{any}
-use Rattle.slink_model.proofs.Worlds.{last_lacks, ties_after}
+use Rattle.slink_model.proofs.Worlds.{ties_after}
 use Rattle.std.proofs.lemmas.Bool.{and_from}
 use Rattle.std.proofs.lemmas.Option.{slice_get_within}
 
@@ -42,15 +40,11 @@ resumes_at : (places : Places) (first : ℕ) (w : WorldState) → length w.windo
     → AreShown places first w.windows w.pushed → WorldTies places first w → LacksFew first w → Resumes w
 resumes_at places first w long are t lacks k start ring mode s held here =
     let lt : k < length places = omega (arith, slice_get_within w.windows k ring here, long) in
-    let shown : (v : Window) × (slice_get w.windows k ≡ Some v) × Shows v first (get_or w.pushed k [])
-    × (v.capacity ≤ 1000000) = are k lt in
+    let shown = are k lt in
     let one : shown.0 ≡ ring = one_value (slice_get w.windows k) shown.0 ring shown.1 here in
-    let shows : Shows ring first (get_or w.pushed k []) =
-    subst (λ (v : Window). Shows v first (get_or w.pushed k [])) one shown.2 in
+    let shows = rw one at shown.2 in
     let room : ring.capacity ≤ 1000000 = subst (λ (v : Window). v.capacity ≤ 1000000) one shown.3 in
-    let holds : Holds first (get_or w.pushed k []) (next_at w.client.talk.wants k) (get_or w.held k []) (Some start)
-    = subst (Holds first (get_or w.pushed k []) (next_at w.client.talk.wants k) (get_or w.held k [])) held
-    (t.holds k lt) in
+    let holds = rw held at (t.beside.holds k lt) in
     let n : ℕ = start + length (get_or w.held k []) in
     let to = held_to first start (get_or w.pushed k []) (next_at w.client.talk.wants k) (get_or w.held k []) holds in
     let few : first + length (get_or w.pushed k []) < n + 2 ^ 24 = lacks k start held in
@@ -65,30 +59,15 @@ resumes_at places first w long are t lacks k start ring mode s held here =
     ∙ (ap (λ (x : Option Window). granted mode k (option_and_then (grant_of mode (Some (n % 2 ^ 24))) x) s) here
     ∙ ap (λ (x : Option ℕ). granted mode k x s) is)
 
-none_way : (few : ℕ → Type 0) (first : ℕ) (F held : List (List ℕ)) (start sent : Option ℕ) (o : Option Grant)
-    (rest : List (ℕ × List ℕ)) → o ≡ None → IsOnWay few first F held start sent o rest → rest ≡ []
-none_way few first F held start sent None rest e way = way
-none_way few first F held start sent (Some g) rest e way = absurd (let bad : Some g ≡ None = e in cc bad)
-
-some_way : (few : ℕ → Type 0) (first : ℕ) (F held : List (List ℕ)) (start sent : Option ℕ) (g : Grant)
-    (rest : List (ℕ × List ℕ)) → IsOnWay few first F held start sent (Some g) rest
-    → (n : ℕ) × (first ≤ n) × AreNext first F n rest × (g.position ≡ n + length rest)
-some_way few first F held start sent g rest way = (way.0, way.1, way.2, way.3)
-
 pub carried_at : (places : Places) (first : ℕ) (w : WorldState) (l : LinkState) → WorldTies places first w
     → w.link ≡ Some l → IsCarried places first w l
 carried_at places first w l t is =
-    let tied : IsLinkTied places first w (Some l) = subst (IsLinkTied places first w) is t.link in
+    let tied = subst (IsLinkTied places first w.pushed w.client w.held w.start) is t.link in
     record {
       items = tied.1.items;
       bytes = tied.1.flow;
-      none = λ k lt e. none_way any first (get_or w.pushed k []) (get_or w.held k []) (number_at w.start k)
-          (number_at l.first_sent k) (grant_at l.session.state.grants k) (of_place k tied.1.items) e
-          (tied.1.places_are k lt);
-      slice = λ k g lt e. some_way any first (get_or w.pushed k []) (get_or w.held k []) (number_at w.start k)
-          (number_at l.first_sent k) g (of_place k tied.1.items)
-          (subst (λ (o : Option Grant). IsOnWay any first (get_or w.pushed k []) (get_or w.held k [])
-          (number_at w.start k) (number_at l.first_sent k) o (of_place k tied.1.items)) e (tied.1.places_are k lt));
+      none = λ k lt e. rw e at (tied.1.places_are k lt);
+      slice = λ k g lt e. let way = rw e at (tied.1.places_are k lt) in (way.0, way.1, way.2, way.3);
     }
 
 module _ (setup : Setup) (steps : List Step) (now : WorldState) (run : AllHappen (opening setup) steps now)
@@ -96,11 +75,10 @@ module _ (setup : Setup) (steps : List Step) (now : WorldState) (run : AllHappen
   -- After any steps the record after the last one held is granted, where it can be.
   pub resume_granted : Resumes now
   resume_granted =
-      let rings : Rings setup now = rings_after setup steps now run is in
-      resumes_at setup.places.items setup.first now (rings_long setup now rings.shown)
-      (are_shown setup now is.capacity rings.shown) (ties_after setup steps now run is lacks)
-      (last_lacks setup.first steps (opening setup) now run lacks)
+      let after = ties_after setup steps now run is lacks in
+      resumes_at setup.places.items setup.first now (rings_long setup now after.0.shown)
+      (are_shown setup now is.capacity after.0.shown) after.1 after.2
 
   -- After any steps what is on its way is carried.
   pub slice_carried : (l : LinkState) → now.link ≡ Some l → IsCarried setup.places.items setup.first now l
-  slice_carried l e = carried_at setup.places.items setup.first now l (ties_after setup steps now run is lacks) e
+  slice_carried l e = carried_at setup.places.items setup.first now l (ties_after setup steps now run is lacks).1 e

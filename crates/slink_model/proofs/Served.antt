@@ -1,11 +1,11 @@
 -- A link after the bytes that its session takes.
 use Rattle.std.proofs.Common.{◌≡◌, ℕ, inl, inr, sym, ap, subst, List, ◌++◌}
-use Rattle.slink_wire.specs.declared.lines.What.TheVariants.{More}
+use Rattle.slink_wire.specs.declared.lines.LineOutcome.TheVariants.{More}
 use Rattle.slink_wire.specs.declared.reply.Reply.{Reply}
 use Rattle.slink_wire.specs.declared.reply.Reply.TheVariants as replies
 use Rattle.slink_wire.specs.Reply.{reply_bytes}
 use Rattle.slink_feed.specs.Listening.{Listening}
-use Rattle.slink_feed.specs.Serving.{Answers, Serves, SessionState, Takes, none_served, piece_served}
+use Rattle.slink_feed.specs.Serving.{Serves, SessionState, Takes, none_served, piece_served}
 use Rattle.slink_feed.specs.Session.{State}
 use Rattle.slink_model.specs.Ties.{AllHold, AreShown, Leaves, LinkTies, Places}
 use Rattle.slink_feed.specs.Running.{HasStream}
@@ -24,11 +24,10 @@ piece_answered feed old new piece reply takes has = elim (closed_or old.state.ph
     subst HasStream (sym same.1) has,
     leaves feed old.state More new.state reply (ap (λ (s : SessionState). s.state) same.1, same.0),
   )
-  | inr awake ↦ let answer : Answers feed old.state has.0 (has.0 ++ piece) new.state reply =
-      takes.answers has.0 awake (has.1 awake) in (
-        (has.0 ++ piece, λ _. takes.held has.0 awake (has.1 awake)),
-        leaves feed old.state answer.0 new.state reply answer.2,
-      )
+  | inr awake ↦ let answer = takes.answers has.0 awake (has.1 awake) in (
+    (has.0 ++ piece, λ _. takes.held has.0 awake (has.1 awake)),
+    leaves feed old.state answer.0 new.state reply answer.2,
+  )
 ]
 
 module _ (places : Places) (first : ℕ) (windows : List Window) (pushed : Lists) (client : Listening) (held : Lists)

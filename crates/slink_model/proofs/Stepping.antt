@@ -1,7 +1,10 @@
 -- The rings of a world while steps happen.
+use Rattle.std.proofs.lemmas.List.{drop_more}
+use Rattle.std.proofs.lemmas.Option.{slice_get-get_or}
+use Rattle.std.proofs.Common.{◌∙◌}
 use Rattle.slink_model.specs.Counted.{shown_of}
 use Rattle.slink_model.proofs.Pushed.{IsShown, ring_at, rings_long}
-use Rattle.std.proofs.Common.{◌≡◌, ℕ, ◌+◌, ◌^◌, ◌<◌, ◌≤◌, inl, inr, zero, suc, refl, sym, ap, subst, arith, List}
+use Rattle.std.proofs.Common.{◌≡◌, ℕ, ◌+◌, ◌^◌, ◌<◌, ◌≤◌, inl, inr, zero, suc, refl, sym, ap, arith, List}
 use Rattle.std.proofs.Common.{[], ◌∷◌, length, map, get_or, take, drop, Option, Some, None, IfSome, slice_get}
 use Rattle.slink_wire.specs.Place.{Fields}
 use Rattle.slink_model.specs.declared.world.Setup.{Setup}
@@ -36,8 +39,7 @@ pub no_double : (setup : Setup) (places : List (Fields × Option ℕ)) (i : ℕ)
     → slice_get places i ≡ Some p → HasPlace (map (empty_window setup) (take i places)) p.0 → ⊥
 no_double setup places i p differ is has =
     let there = has_place setup (take i places) p.0 has in
-    let prefix : (there.0 < i) × (slice_get places there.0 ≡ Some there.1) =
-    get_prefix places i there.0 there.1 there.2 in
+    let prefix = get_prefix places i there.0 there.1 there.2 in
     let same : there.0 ≡ i = differ there.0 i there.1 p prefix.1 is there.3 in
     omega (arith, prefix.0, same)
 
@@ -56,17 +58,11 @@ possible setup w n step shown few first small of = tt
 
 pub happens_more : (w u last : WorldState) (steps : List Step) (i : ℕ) (d : Step) → i < length steps
     → Happens w (get_or steps i d) u → AllHappen u (drop (i + 1) steps) last → AllHappen w (drop i steps) last
-happens_more w u last [] i d lt happens more = absurd (omega (arith, lt))
-happens_more w u last (s ∷ ss) zero d lt happens more = (u, happens, more)
-happens_more w u last (s ∷ ss) (suc i) d lt happens more =
-    let on : suc i + 1 ≡ suc (i + 1) = omega arith in
-    happens_more w u last ss i d (omega (arith, lt)) happens (subst (λ n. AllHappen u (drop n (s ∷ ss)) last) on more)
+happens_more w u last steps i d lt happens more = rw (drop_more steps i d lt) (u, happens, more)
 
 pub got : (places : List (Fields × Option ℕ)) (i : ℕ) (p : Fields × Option ℕ) → i < length places
     → p ≡ get_or places i p → slice_get places i ≡ Some p
-got [] i p lt is = absurd (omega (arith, lt))
-got (q ∷ qs) zero p lt is = ap (λ x. Some x) (sym is)
-got (q ∷ qs) (suc i) p lt is = got qs i p (omega (arith, lt)) is
+got places i p lt is = slice_get-get_or places i p lt ∙ ap (λ x. Some x) (sym is)
 
 -- The feed goes on, and fits whatever it fitted.
 pub serving_on : (feed new : List Window) (link : Option LinkState) → ((s : State) → Fits feed s → Fits new s)

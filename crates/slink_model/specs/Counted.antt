@@ -90,7 +90,7 @@ if_come false feed talk l = l
 abbrev pub taken_by : ℕ → CountedLink → ℕ
 taken_by n l = min (l.taken + n) (length l.written)
 
--- So many bytes come to the server.
+-- `n` bytes come to the server.
 abbrev pub served_by : List Window → Talk → ℕ → CountedLink → CountedLink
 served_by feed talk n l = if_come (waits l.taken l.written && not (waits (taken_by n l) l.written)) feed talk
     (record l { taken = taken_by n l })
@@ -113,7 +113,7 @@ sent_by feed k l = record l {
   sent = l.sent ++ items_sent feed l.session.grants k (sent feed l.session k).1;
 }
 
--- which of these are whole in so many bytes, which aren't, and how many bytes there are of the first that isn't
+-- which of these are whole in `d` bytes, which aren't, and how many bytes there are of the first that isn't
 abbrev pub wholes : ℕ → List Item → List Item
 wholes d [] = []
 wholes d (i ∷ is) = if nat_le (length (item_bytes i)) d then i ∷ wholes (d - length (item_bytes i)) is else []
@@ -162,7 +162,7 @@ abbrev pub with_events : Numbers → List Event → Gained → Gained
 with_events f [] g = g
 with_events f (e ∷ es) g = with_events f es (with_event f e g)
 
--- what is whole once so many bytes more come to the client
+-- what is whole once `n` more bytes come to the client
 abbrev pub news : ℕ → CountedLink → List Item
 news n l = wholes (part l.delivered l.sent + n) (undelivered l.delivered l.sent)
 
@@ -258,7 +258,7 @@ AreItems (Carried k n r ∷ is) = (length r ≡ 512) × AreItems is
 AreItems (Finished ∷ is) = is ≡ []
 AreItems (i ∷ is) = ⊥
 
--- Two replies of 4 bytes to each of so many stations were sent and came to the client; after them packets were sent,
+-- Two replies of 4 bytes to each of `places` stations were sent and came to the client; after them packets were sent,
 -- and after the last of these the end, if it was.
 pub record IsStreamed (places : ℕ) (l : CountedLink) : Type 0 where
   pub packets : List Item

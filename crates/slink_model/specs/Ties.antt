@@ -1,6 +1,6 @@
 -- What is held of a station, and what of it is on its way to the client.
 use Rattle.std.specs.Prelude.{◌≡◌, ℕ, ◌+◌, ◌-◌, ◌%◌, ◌^◌, ◌<◌, ◌≤◌, ◌⊎◌, ◌==◌, List, [], ◌∷◌, ◌++◌, length, codes}
-use Rattle.std.specs.Prelude.{false, Option, Some, None, slice_get, slice_index_or, if◌then◌else◌}
+use Rattle.std.specs.Prelude.{Bool, false, Option, Some, None, slice_get, slice_index_or, if◌then◌else◌}
 use Rattle.slink_wire.specs.declared.reply.Reply.{Reply}
 use Rattle.slink_wire.specs.declared.reply.Reply.TheVariants as replies
 use Rattle.slink_wire.specs.Packet.{packet_bytes}
@@ -115,12 +115,6 @@ pub data Outcome (wants : Wants) (items : List Item) (bytes way : List ℕ) (new
   ends : (ending : Ending) → new.talk.stage ≡ Ended ending → new.talk.wants ≡ wants → new.kept ≡ []
       → reported_of e ≡ None → Outcome wants items bytes way new e
 
--- the records that are carried are of these stations, and have 512 bytes
-abbrev pub AreWhole : List Item → Type 0
-AreWhole [] = Unit {0}
-AreWhole (Carried k n r ∷ is) = (length r ≡ 512) × AreWhole is
-AreWhole (i ∷ is) = AreWhole is
-
 -- What a station is granted once a command was answered: what it was, nothing, or a number from the window or the next.
 pub data IsGranted (feed : List Window) (k : ℕ) (old new : Option Grant) : Type 0 where
   same : new ≡ old → IsGranted feed k old new
@@ -138,6 +132,16 @@ Leaves phase feed s x = (k : ℕ) → IsGranted feed k (grant_at s.grants k) (gr
 -- the stations, each with the number that was wanted first
 abbrev pub Places : Type 0
 Places = List (Fields × Option ℕ)
+
+-- Of records that are carried, each has 512 bytes and is of its station.
+abbrev pub IsOfPlace : Places → Item → Type 0
+IsOfPlace places (Carried k n r) = (p : Fields × Option ℕ) × (slice_get places k ≡ Some p) × (length r ≡ 512)
+    × Bears r p.0
+IsOfPlace places item = Unit {0}
+
+abbrev pub AreOfPlace : Places → List Item → Type 0
+AreOfPlace places [] = Unit {0}
+AreOfPlace places (i ∷ is) = IsOfPlace places i × AreOfPlace places is
 
 -- Each ring shows what was pushed to it.
 abbrev pub AreShown : Places → ℕ → List Window → Lists → Type 0
@@ -167,26 +171,30 @@ AllHold places first pushed wants held start = (k : ℕ) → k < length places
 pub record LinkTies (places : Places) (first : ℕ) (few : ℕ → ℕ → Type 0) (pushed : Lists) (client : Listening)
     (held : Lists) (start : Numbers) (state : State) (first_sent : Numbers) (way : List ℕ) : Type 0 where
   pub items : List Item
-  pub are_whole : AreWhole items
+  pub matched : AreOfPlace places items
   pub flow : IsLinked client.talk.stage → client.kept ++ way ≡ way_bytes items
   pub before : IsBefore state.phase → (k : ℕ) → (of_place k items ≡ []) × (number_at first_sent k ≡ None)
-  pub within : (k : ℕ) → length places ≤ k → of_place k items ≡ []
   pub places_are : (k : ℕ) → k < length places
       → IsOnWay (few k) first (slice_index_or pushed k []) (slice_index_or held k []) (number_at start k)
       (number_at first_sent k) (grant_at state.grants k) (of_place k items)
   pub room : length first_sent ≡ 16
 
-abbrev pub IsLinkTied : Places → ℕ → WorldState → Option LinkState → Type 0
-IsLinkTied places first w None = Unit {0}
-IsLinkTied places first w (Some l) =
+abbrev pub IsLinkTied : Places → ℕ → Lists → Listening → Lists → Numbers → Option LinkState → Type 0
+IsLinkTied places first pushed client held start None = Unit {0}
+IsLinkTied places first pushed client held start (Some l) =
     HasStream l.session
-    × LinkTies places first (λ k x. Unit {0}) w.pushed w.client w.held w.start l.session.state l.first_sent l.to_client
+    × LinkTies places first (λ k x. Unit {0}) pushed client held start l.session.state l.first_sent l.to_client
+
+-- what is held beside a link, and what is wanted
+pub record Besides (places : Places) (first : ℕ) (pushed : Lists) (wants : Wants) (holes : Bool) (held : Lists)
+    (start : Numbers) : Type 0 where
+  pub wanted : AreWanted places wants
+  pub plain : holes ≡ false
+  pub holds : AllHold places first pushed wants held start
+  pub want_first : WantFirst places wants start
+  pub long : (length held ≡ length places) × (length start ≡ length places)
 
 -- how a world stands to all records that were pushed, at any moment of any schedule
 pub record WorldTies (places : Places) (first : ℕ) (w : WorldState) : Type 0 where
-  pub wanted : AreWanted places w.client.talk.wants
-  pub plain : w.client.talk.holes ≡ false
-  pub holds : AllHold places first w.pushed w.client.talk.wants w.held w.start
-  pub want_first : WantFirst places w.client.talk.wants w.start
-  pub long : (length w.held ≡ length places) × (length w.start ≡ length places)
-  pub link : IsLinkTied places first w w.link
+  pub beside : Besides places first w.pushed w.client.talk.wants w.client.talk.holes w.held w.start
+  pub link : IsLinkTied places first w.pushed w.client w.held w.start w.link

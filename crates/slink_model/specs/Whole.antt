@@ -39,7 +39,7 @@ pub record HoldsMore (old : Lists) (items : List Item) (held : Lists) : Type 0 w
   pub each : (k : ℕ) → slice_index_or held k [] ≡ slice_index_or old k [] ++ records_in k items
   pub count : held_count held ≡ held_count old + packet_count items
 
--- Two replies of 4 bytes to each of so many stations came to the client, and packets after them. For each 520 bytes
+-- Two replies of 4 bytes to each of `places` stations came to the client, and packets after them. For each 520 bytes
 -- that came after the replies a packet is whole, and the records of these are held.
 pub record HoldsWhole (places : ℕ) (old held : Lists) (l : CountedLink) : Type 0 where
   pub streamed : IsStreamed places l

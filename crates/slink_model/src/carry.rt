@@ -9,6 +9,7 @@ ghost use Rattle.slink_model.specs.World.{with_client, number_at, with_first, wi
 
 use crate::world::Memory;
 use slink_feed::{Client, Event, Feed, Session};
+use slink_wire::STATIONS;
 
 /// Takes the prefix of a queue away.
 pub(crate) fn remove_prefix(queue: &mut Vec<u8>, count: usize)
@@ -90,7 +91,7 @@ pub(crate) fn serve_bytes(
 /// Puts what comes of an event where it belongs.
 fn note(
     event: Event,
-    first_sent: &[Option<u64>; 16],
+    first_sent: &[Option<u64>; STATIONS],
     held: &mut Vec<Vec<[u8; 512]>>,
     start: &mut Vec<Option<u64>>,
     to_server: &mut Vec<u8>,
@@ -127,7 +128,7 @@ fn read_piece(client: &mut Client, bytes: &[u8]) -> (usize, Event)
 pub(crate) fn read_bytes(
     client: &mut Client,
     bytes: &[u8],
-    first_sent: &[Option<u64>; 16],
+    first_sent: &[Option<u64>; STATIONS],
     held: &mut Vec<Vec<[u8; 512]>>,
     start: &mut Vec<Option<u64>>,
     to_server: &mut Vec<u8>,

@@ -101,7 +101,7 @@ pub fn is_the_counted_world()
         → IsCounted setup (counted_after setup (counted_opening setup) steps) now }
 {}
 
-/// Of two replies to each of so many stations, and packets after them, there are whole in a prefix of their bytes,
+/// Of two replies to each of `places` stations, and packets after them, there are whole in a prefix of their bytes,
 /// after the replies, as many packets as the prefix has whole 520 bytes after these. So it is where the end is after
 /// the packets, which is whole where all bytes are there.
 pub fn counts_whole_packets()

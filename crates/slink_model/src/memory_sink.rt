@@ -8,15 +8,15 @@ use std::alloc::Allocator;
 
 /// What was written, kept in memory. A write fails where memory was refused.
 #[derive(Drop)]
-pub struct MemorySink<A: Allocator> {
+pub(crate) struct MemorySink<A: Allocator> {
     /// All bytes that were written, in order.
-    pub bytes: Vec<u8, A>,
+    pub(crate) bytes: Vec<u8, A>,
     pub(crate) calls: Tally,
 }
 
 impl<A: Allocator> MemorySink<A> {
     /// Returns a sink to which nothing was written.
-    pub fn new(alloc: A) -> MemorySink<A>
+    pub(crate) fn new(alloc: A) -> MemorySink<A>
         ensures { written_by result ≡ nothing_written }
     {
         MemorySink {

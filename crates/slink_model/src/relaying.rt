@@ -28,8 +28,8 @@ pub enum RelayFault {
     Memory,
 }
 
-/// Packs a series, carries out a schedule in which each Append pushes the next packed record, or nothing where none is
-/// left, and puts the records that the client holds at its end together: `None` where it holds none.
+/// Returns the series of the records that the client holds at the end of a schedule in which each Append pushes the
+/// next record that a series was packed into, or nothing where none is left; `None` where the client holds none.
 ///
 /// The records have 512 bytes. The schedule has one station, that of the series' channel, and fewer than 2^24 steps.
 ///

@@ -4,6 +4,7 @@ ghost use Rattle.slink_wire.specs.Place.{AreNumbers, IsField};
 ghost use Rattle.slink_model.specs.Calling.{AreAnswered};
 ghost use Rattle.slink_model.specs.Counted.{IsCounted, counted_after, counted_opening};
 ghost use Rattle.slink_feed.specs.Fault.{IsCapacity};
+ghost use Rattle.slink_wire.specs.declared.limits.TheConstants.{STATIONS};
 ghost use Rattle.slink_model.specs.Going.{GoesOn};
 ghost use Rattle.slink_feed.specs.Listening.{IsLinked};
 ghost use Rattle.slink_model.specs.Running.{IsRunning};
@@ -39,7 +40,7 @@ fn have_codes(setup: &Setup)
 fn feed_of(alloc: Global, setup: &Setup) -> Result<Feed, Memory>
     requires capacity { IsCapacity setup.now.capacity }
     requires first { setup.now.first < 2 ^ 24 }
-    requires count { length setup.now.places.items ≤ 16 }
+    requires count { length setup.now.places.items ≤ STATIONS }
     requires differ { Differ setup.now.places.items }
     ensures { IfOk result (λ f. f ≡ map (empty_window setup.now) setup.now.places.items) }
 {
@@ -80,7 +81,7 @@ fn open(alloc: Global, setup: &Setup) -> Result<World, Memory>
     requires capacity { IsCapacity setup.now.capacity }
     requires first { setup.now.first < 2 ^ 24 }
     requires numbers { AreNumbers setup.now.places.items }
-    requires count { length setup.now.places.items ≤ 16 }
+    requires count { length setup.now.places.items ≤ STATIONS }
     requires differ { Differ setup.now.places.items }
     ensures opening { IfOk result (λ w. seen w ≡ opening setup.now) }
     ensures running { IfOk result (λ w. IsRunning (seen w)) }
@@ -95,7 +96,7 @@ fn open(alloc: Global, setup: &Setup) -> Result<World, Memory>
     })
 }
 
-/// Carries out a schedule: pushes, deliveries, cuts and reconnections in any order.
+/// Returns the world that the steps of a schedule lead to: pushes, deliveries, cuts and reconnections in any order.
 ///
 /// The stations are different, at most sixteen. The capacity is from 1 to 1,000,000 records, the first number and those
 /// that the client wants first are below 2^24. There are fewer than 2^40 steps: a step names one of the stations, and a
@@ -108,7 +109,7 @@ pub fn run_schedule(alloc: Global, setup: &Setup, steps: &[Step]) -> Result<Worl
     requires capacity { IsCapacity setup.now.capacity }
     requires first { setup.now.first < 2 ^ 24 }
     requires numbers { AreNumbers setup.now.places.items }
-    requires count { length setup.now.places.items ≤ 16 }
+    requires count { length setup.now.places.items ≤ STATIONS }
     requires differ { Differ setup.now.places.items }
     requires few { length steps.now < 2 ^ 40 }
     requires steps { All (IsOf setup.now.places.items) steps.now }

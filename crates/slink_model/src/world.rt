@@ -6,7 +6,7 @@ ghost use Rattle.slink_model.specs.World.{Happens, Reads, IsOf, IsServed, link_s
 
 use crate::carry::{add_bytes, add_record, note_first, read_bytes, remove_prefix, serve_bytes};
 use slink_feed::{Client, Feed, Mode, Sent, Session};
-use slink_wire::Place;
+use slink_wire::{Place, STATIONS};
 use std::alloc::Global;
 
 /// There wasn't enough memory.
@@ -33,9 +33,9 @@ pub enum Step {
     Append(usize, [u8; 512]),
     /// The client connects: a link that stands is lost, with all bytes on their way.
     Connect,
-    /// So many bytes, or all where there are fewer, come to the server.
+    /// This number of bytes, or all where there are fewer, comes to the server.
     ToServer(usize),
-    /// So many bytes, or all where there are fewer, come to the client.
+    /// This number of bytes, or all where there are fewer, comes to the client.
     ToClient(usize),
     /// The session is called for a packet of this station.
     Send(usize),
@@ -53,7 +53,7 @@ pub struct Link {
     /// The bytes on their way to the client.
     pub to_client: Vec<u8>,
     /// The number of the first packet that the session sent of each station.
-    pub(crate) first_sent: [Option<u64>; 16],
+    pub(crate) first_sent: [Option<u64>; STATIONS],
 }
 
 /// A server, a client, and at most one link between them.
@@ -193,7 +193,7 @@ impl World {
             session: Session::new(),
             to_server,
             to_client: Vec::new(alloc),
-            first_sent: [None; 16],
+            first_sent: [None; STATIONS],
         });
         Ok(())
     }
