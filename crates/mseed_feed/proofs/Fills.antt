@@ -1,7 +1,7 @@
 -- The rings of a feed, record after record.
 use Rattle.std.proofs.Common.{◌≡◌, ◌≢◌, ℕ, ◌+◌, ◌<◌, ◌≤◌, ◌^◌, inl, inr, zero, suc, refl, sym, ap, subst, ◌∙◌, arith}
 use Rattle.std.proofs.Common.{Bool, true, false, ◌&&◌, not, List, [], ◌∷◌, ◌++◌, length, append-nil}
-use Rattle.std.proofs.Common.{if◌then◌else◌, ◌-◌, map, get_or, take, take_all, Option, Some, None, Result}
+use Rattle.std.proofs.Common.{◌-◌, map, get_or, take, take_all, Some, Result}
 use Rattle.std.proofs.Common.{Ok, Err, IfErr, OnErr, OnOk, slice_get, bytes_eq}
 use Rattle.std.proofs.lemmas.Bool.{not-true, or_parts}
 use Rattle.std.proofs.lemmas.List.{length-map, length-take, map-append, map_more}
@@ -10,12 +10,10 @@ use Rattle.std.proofs.lemmas.Option.{slice_get_read}
 use Rattle.std.proofs.lemmas.List.Elements.{filter-append}
 use Rattle.std.proofs.lemmas.Slice.Eq.{bytes_eq-Decides}
 use Rattle.mseed_record.specs.View.{View}
-use Rattle.mseed_record.specs.Viewing.{view_of}
-use Rattle.mseed_record.specs.declared.view.RecordView.{RecordView}
 use Rattle.mseed_stream.specs.Device.{BytesRead}
 use Rattle.mseed_stream.specs.CutterState.{CutterState}
 use Rattle.mseed_stream.specs.Cutting.{IfEnds, failed_by}
-use Rattle.mseed_stream.specs.Walk.{AreAllViews, HasHandedOut, IfGoesOn, bytes_in}
+use Rattle.mseed_stream.specs.Walk.{AreAllViews, HasHandedOut, bytes_in}
 use Rattle.mseed_stream.specs.declared.fault.StreamFault.{StreamFault}
 use Rattle.mseed_stream.specs.declared.fault.StreamFault.TheVariants.{Memory}
 use Rattle.slink_wire.specs.Place.{Bears, Fields}
@@ -23,7 +21,7 @@ use Rattle.slink_wire.proofs.Carrying.{carries_fails, one_place, passes_carries}
 use Rattle.slink_wire.proofs.Cuts.{both}
 use Rattle.slink_feed.specs.Intake.{IsOfFeed, foreign_of, is_of_station, places_of, pushed}
 use Rattle.slink_feed.specs.Rings.{HasPlace}
-use Rattle.slink_feed.specs.Window.{Shows, Window, window, with_record}
+use Rattle.slink_feed.specs.Window.{Shows, Window, with_record}
 use Rattle.slink_feed.specs.declared.input.InputFault.{InputFault}
 use Rattle.slink_feed.specs.declared.input.InputFault.TheVariants.{Stream, Foreign}
 use Rattle.slink_feed.proofs.Items.{drop_none, get_mapped, map_got, shows_more}
@@ -35,50 +33,17 @@ use Rattle.mseed_feed.specs.private.Pushing.{IsNextPushed}
 use Rattle.mseed_feed.specs.declared.filling.Step.{Step}
 use Rattle.mseed_feed.specs.declared.filling.Step.TheVariants.{Pushed}
 
-records_taken : (p : Fields) (rs : List (List ℕ)) (r : List ℕ) → is_of_station p r ≡ true
-    → records_of p (rs ++ r ∷ []) ≡ records_of p rs ++ r ∷ []
-records_taken p rs r is = filter-append (is_of_station p) rs (r ∷ [])
-    ∙ ap (λ (t : Bool). records_of p rs ++ (if t then r ∷ [] else [])) is
-
-records_left : (p : Fields) (rs : List (List ℕ)) (r : List ℕ) → is_of_station p r ≡ false
-    → records_of p (rs ++ r ∷ []) ≡ records_of p rs
-records_left p rs r is =
-    filter-append (is_of_station p) rs (r ∷ [])
-    ∙ (ap (λ (t : Bool). records_of p rs ++ (if t then r ∷ [] else [])) is
-    ∙ append-nil (records_of p rs))
-
--- the ring of a place, by its records
-abbrev with_list : Serving → Fields → List (List ℕ) → Window
-with_list s p rs = record {
-  place = p;
-  capacity = s.capacity;
-  records = window s.capacity rs;
-  next = s.first + length rs;
-}
-
+-- a ring takes a record of its place, and stays as it is at another
 ring_taken : (s : Serving) (rs : List (List ℕ)) (r : List ℕ) (p : Fields) → is_of_station p r ≡ true
     → with_record (ring_of s rs p) r ≡ ring_of s (rs ++ r ∷ []) p
 ring_taken s rs r p is =
-    let old : Window = ring_of s rs p in
-    let more : Shows (with_record old r) s.first (records_of p rs ++ r ∷ []) =
-    shows_more old s.first (records_of p rs) r (record { records = refl; next = refl }) in
-    ap (λ (xs : List (List ℕ)). record {
-      place = p;
-      capacity = s.capacity;
-      records = xs;
-      next = (with_record old r).next;
-    }) more.records
-    ∙ (ap (λ (n : ℕ). record {
-      place = p;
-      capacity = s.capacity;
-      records = window s.capacity (records_of p rs ++ r ∷ []);
-      next = n;
-    }) more.next
-    ∙ ap (with_list s p) (sym (records_taken p rs r is)))
+    let more : Shows (with_record (ring_of s rs p) r) s.first (records_of p rs ++ r ∷ []) =
+    shows_more (ring_of s rs p) s.first (records_of p rs) r (record { records = refl; next = refl }) in
+    rw (filter-append (is_of_station p) rs (r ∷ []), is) (cc (more.records, more.next))
 
 ring_left : (s : Serving) (rs : List (List ℕ)) (r : List ℕ) (p : Fields) → is_of_station p r ≡ false
     → ring_of s rs p ≡ ring_of s (rs ++ r ∷ []) p
-ring_left s rs r p is = ap (with_list s p) (sym (records_left p rs r is))
+ring_left s rs r p is = rw (filter-append (is_of_station p) rs (r ∷ []), is, append-nil) refl
 
 -- No place stands twice.
 abbrev Lacks : Fields → List Fields → Type 0
@@ -96,11 +61,8 @@ same_self p = ap (λ (t : Bool). t && bytes_eq p.network p.network) ((bytes_eq-D
 lacks_of : (p : Fields) (qs : List Called) → has_place p qs ≡ false → Lacks p (map (λ (q : Called). q.0) qs)
 lacks_of p [] h = tt
 lacks_of p (q ∷ qs) h =
-    let each : (is_same q.0 p ≡ false) × (has_place p qs ≡ false) = or_parts (is_same q.0 p) (has_place p qs) h in (
-      λ same. let bad : true ≡ false = sym (same_self p) ∙ (ap (λ (x : Fields). is_same x p) (sym same) ∙ each.0) in
-          cc bad,
-      lacks_of p qs each.1,
-    )
+    let each : (is_same q.0 p ≡ false) × (has_place p qs ≡ false) = or_parts (is_same q.0 p) (has_place p qs) h in
+    (λ same. cc (same_self p, rw same at each.0), lacks_of p qs each.1)
 
 pub distinct_of : (ps : List Called) → are_different ps ≡ true → Distinct (map (λ (q : Called). q.0) ps)
 distinct_of [] h = tt
@@ -110,17 +72,16 @@ distinct_of (p ∷ ps) h =
     (lacks_of p.0 ps (not-true (has_place p.0 ps) each.0), distinct_of ps each.1)
 
 lacks_at : (p q : Fields) (ps : List Fields) (k : ℕ) → Lacks p ps → slice_get ps k ≡ Some q → q ≢ p
-lacks_at p q [] k lacks is = absurd (let bad : None ≡ Some q = is in cc bad)
-lacks_at p q (x ∷ ps) zero lacks is = let same : x ≡ q = cc is in subst (λ (y : Fields). y ≢ p) same lacks.0
+lacks_at p q [] k lacks is = absurd (cc is)
+lacks_at p q (x ∷ ps) zero lacks is = λ same. lacks.0 (cc (is, same))
 lacks_at p q (x ∷ ps) (suc k) lacks is = lacks_at p q ps k lacks.1 is
 
 rings_left : (s : Serving) (rs : List (List ℕ)) (r : List ℕ) (p : Fields) (ps : List Fields) → Bears r p → Lacks p ps
     → map (ring_of s rs) ps ≡ map (ring_of s (rs ++ r ∷ [])) ps
 rings_left s rs r p [] h lacks = refl
 rings_left s rs r p (q ∷ qs) h lacks =
-    ap (λ (w : Window). w ∷ map (ring_of s rs) qs)
-    (ring_left s rs r q (carries_fails q r (λ other. lacks.0 (one_place r q p other h))))
-    ∙ ap (λ (ws : List Window). ring_of s (rs ++ r ∷ []) q ∷ ws) (rings_left s rs r p qs h lacks.1)
+    let left = ring_left s rs r q (carries_fails q r (λ other. lacks.0 (one_place r q p other h))) in
+    cc (left, rings_left s rs r p qs h lacks.1)
 
 -- the ring of its place takes a record, and the other rings stay
 rings_more : (s : Serving) (rs : List (List ℕ)) (r : List ℕ) (ps : List Fields) → Distinct ps
@@ -132,16 +93,8 @@ rings_more s rs r (p ∷ ps) distinct = by_test (is_of_station p r) refl (rings_
         → pushed (map (ring_of s rs) ps) r ≡ map (ring_of s (rs ++ r ∷ [])) ps
         → pushed (map (ring_of s rs) (p ∷ ps)) r ≡ map (ring_of s (rs ++ r ∷ [])) (p ∷ ps)
     by_test true is more =
-        ap (λ (t : Bool). if t then with_record (ring_of s rs p) r ∷ map (ring_of s rs) ps
-        else ring_of s rs p ∷ pushed (map (ring_of s rs) ps) r) is
-        ∙ (ap (λ (v : Window). v ∷ map (ring_of s rs) ps) (ring_taken s rs r p is)
-        ∙ ap (λ (ws : List Window). ring_of s (rs ++ r ∷ []) p ∷ ws)
-        (rings_left s rs r p ps (passes_carries p r is) distinct.0))
-    by_test false is more =
-        ap (λ (t : Bool). if t then with_record (ring_of s rs p) r ∷ map (ring_of s rs) ps
-        else ring_of s rs p ∷ pushed (map (ring_of s rs) ps) r) is
-        ∙ (ap (λ (v : Window). v ∷ pushed (map (ring_of s rs) ps) r) (ring_left s rs r p is)
-        ∙ ap (λ (ws : List Window). ring_of s (rs ++ r ∷ []) p ∷ ws) more)
+        rw is (cc (ring_taken s rs r p is, rings_left s rs r p ps (passes_carries p r is) distinct.0))
+    by_test false is more = rw is (cc (ring_left s rs r p is, more))
 
 -- the rings are of the places, whatever they have
 places_are : (s : Serving) (rs : List (List ℕ)) (ps : List Fields) → places_of (map (ring_of s rs) ps) ≡ ps
@@ -151,14 +104,19 @@ places_are s rs (p ∷ ps) = ap (λ (qs : List Fields). p ∷ qs) (places_are s 
 places_in : (s : Serving) (rs : List (List ℕ)) (feed : List Window) → feed ≡ feed_of s rs → places_of feed ≡ served s
 places_in s rs feed is = ap places_of is ∙ places_are s rs (served s)
 
--- how far the numbers went
-pub next_at_most : (s : Serving) (rs : List (List ℕ)) (feed : List Window) (k : ℕ) (w : Window) → feed ≡ feed_of s rs
-    → slice_get feed k ≡ Some w → w.next ≤ s.first + length rs
-next_at_most s rs feed k w is here =
-    let at : (q : Fields) × (slice_get (served s) k ≡ Some q) × (ring_of s rs q ≡ w) =
-    get_mapped (ring_of s rs) (served s) k w (subst (λ (ws : List Window). slice_get ws k ≡ Some w) is here) in
-    let next : s.first + length (records_of at.0 rs) ≡ w.next = ap (λ (v : Window). v.next) at.2 in
-    omega (arith, next, length-filter (is_of_station at.0) rs, count_by-le-length (is_of_station at.0) rs)
+-- the numbers stay small
+pub next_small : (s : Serving) (views : List View) (feed : List Window) (k : ℕ) (w : Window) → s.first < 2 ^ 24
+    → length views ≤ 2 ^ 40 → feed ≡ feed_of s (bytes_in views) → slice_get feed k ≡ Some w → w.next < 2 ^ 63
+next_small s views feed k w first few is there =
+    let at = get_mapped (ring_of s (bytes_in views)) (served s) k w (rw is at there) in
+    let next : s.first + length (records_of at.0 (bytes_in views)) ≡ w.next = ap (λ (v : Window). v.next) at.2 in
+    let some = is_of_station at.0 in
+    omega (
+      arith,
+      length-filter some (bytes_in views),
+      count_by-le-length some (bytes_in views),
+      length-map views (λ (v : View). v.bytes),
+    )
 
 pub all_of_feed : (places : List Fields) (rs : List (List ℕ)) (r : List ℕ) → AreOfFeed places rs → IsOfFeed places r
     → AreOfFeed places (rs ++ r ∷ [])
@@ -169,14 +127,11 @@ all_of_feed places (x ∷ rs) r all is = (all.0, all_of_feed places rs r all.1 i
 pub empty_ring : (s : Serving) (p : Fields) → record { place = p; capacity = s.capacity; records = []; next = s.first }
     ≡ ring_of s [] p
 empty_ring s p =
-    ap (λ (xs : List (List ℕ)). record { place = p; capacity = s.capacity; records = xs; next = s.first })
-    (sym (drop_none (0 - s.capacity)))
-    ∙ ap (λ (n : ℕ). record { place = p; capacity = s.capacity; records = window s.capacity []; next = n })
-    {x = s.first} {y = s.first + 0} (omega arith)
+    let first : s.first + 0 ≡ s.first = omega arith in rw (first, drop_none (0 - s.capacity)) refl
 
 pub no_double : (s : Serving) (ps : List Called) (i : ℕ) (p : Called) → Distinct (map (λ (q : Called). q.0) ps)
     → slice_get ps i ≡ Some p → HasPlace (map (ring_of s []) (map (λ (q : Called). q.0) (take i ps))) p.0 → ⊥
-no_double s [] i p distinct is has = absurd (let bad : None ≡ Some p = is in cc bad)
+no_double s [] i p distinct is has = cc is
 no_double s (q ∷ qs) zero p distinct is has = has
 no_double s (q ∷ qs) (suc i) p distinct is (inl same) =
     lacks_at q.0 p.0 (map (λ (a : Called). a.0) qs) i distinct.0 (map_got (λ (a : Called). a.0) qs i p is) (sym same)
@@ -186,25 +141,24 @@ no_double s (q ∷ qs) (suc i) p distinct is (inr more) = no_double s qs i p dis
 abbrev opening : Serving → ℕ → List Window
 opening s i = map (ring_of s []) (map (λ (p : Called). p.0) (take i s.places))
 
-item_there : (ps : List Called) (i : ℕ) (p : Called) → i < length ps → p ≡ get_or ps i p → slice_get ps i ≡ Some p
-item_there ps i p lt is = slice_get_read ps (length ps) i p refl lt is
-
 pub opened_few : (s : Serving) (i : ℕ) (feed : List Window) → i < length s.places → length s.places ≤ 16
     → feed ≡ opening s i → length feed < 16
 opened_few s i feed lt most is =
-    let size : length feed ≡ length (opening s i) = ap length is in
-    let rings : length (opening s i) ≡ length (map (λ (p : Called). p.0) (take i s.places)) =
-    length-map (map (λ (p : Called). p.0) (take i s.places)) (ring_of s []) in
-    let few : length (map (λ (p : Called). p.0) (take i s.places)) ≡ length (take i s.places) =
-    length-map (take i s.places) (λ (p : Called). p.0) in
-    omega (arith, size, rings, few, length-take i s.places, lt, most)
+    let called = take i s.places in
+    omega (
+      arith,
+      ap length is,
+      length-map (map (λ (p : Called). p.0) called) (ring_of s []),
+      length-map called (λ (p : Called). p.0),
+      length-take i s.places,
+    )
 
 pub opened_other : (s : Serving) (i : ℕ) (p : Called) (feed : List Window) (ring : Window)
     → are_different s.places ≡ true → i < length s.places → p ≡ get_or s.places i p
     → ring ≡ record { place = p.0; capacity = s.capacity; records = []; next = s.first } → feed ≡ opening s i
     → ¬ (HasPlace feed ring.place)
 opened_other s i p feed ring different lt item is opened has =
-    no_double s s.places i p (distinct_of s.places different) (item_there s.places i p lt item)
+    no_double s s.places i p (distinct_of s.places different) (slice_get_read s.places _ i p refl lt item)
     (subst (λ (ws : List Window). HasPlace ws p.0) opened (subst (HasPlace feed) (ap (λ (w : Window). w.place) is) has))
 
 pub opened_more : (s : Serving) (i : ℕ) (p : Called) (feed new : List Window) (ring : Window) → i < length s.places
@@ -222,14 +176,6 @@ pub opened_all : (s : Serving) (i : ℕ) (feed : List Window) → length s.place
 opened_all s i feed past opened = opened ∙ ap (λ (ps : List Called). map (ring_of s []) (map (λ (q : Called). q.0) ps))
     (take_all i s.places past)
 
--- the numbers stay small
-pub next_small : (s : Serving) (views : List View) (calls : ℕ) (feed : List Window) (k : ℕ) (w : Window)
-    → s.first < 2 ^ 24 → length views ≤ 2 ^ 40 → feed ≡ feed_of s (bytes_in views) → slice_get feed k ≡ Some w
-    → w.next < 2 ^ 63
-next_small s views calls feed k w first few is there =
-    let most : w.next ≤ s.first + length (bytes_in views) = next_at_most s (bytes_in views) feed k w is there in
-    omega (arith, most, first, few, length-map views (λ (v : View). v.bytes))
-
 -- one record more
 bytes_more : (views : List View) (v : View) → bytes_in (views ++ v ∷ []) ≡ bytes_in views ++ v.bytes ∷ []
 bytes_more views v = map-append (λ (x : View). x.bytes) views (v ∷ [])
@@ -238,9 +184,8 @@ feed_reported : (s : Serving) (views : List View) (v : View) (r : List ℕ) (fee
     → are_different s.places ≡ true → r ≡ v.bytes → feed ≡ feed_of s (bytes_in views) → new ≡ pushed feed r
     → new ≡ feed_of s (bytes_in (views ++ v ∷ []))
 feed_reported s views v r feed new different same is taken =
-    taken ∙ (ap (λ (ws : List Window). pushed ws r) is
-    ∙ (rings_more s (bytes_in views) r (served s) (distinct_of s.places different)
-    ∙ ap (feed_of s) (ap (λ (x : List ℕ). bytes_in views ++ x ∷ []) same ∙ sym (bytes_more views v))))
+    rw (taken, is, same, bytes_more views v)
+    (rings_more s (bytes_in views) v.bytes (served s) (distinct_of s.places different))
 
 records_reported : (s : Serving) (views : List View) (v : View) (r : List ℕ) (feed : List Window) → r ≡ v.bytes
     → feed ≡ feed_of s (bytes_in views) → IsOfFeed (places_of feed) r → AreOfFeed (served s) (bytes_in views)
@@ -248,12 +193,6 @@ records_reported : (s : Serving) (views : List View) (v : View) (r : List ℕ) (
 records_reported s views v r feed same is of before =
     subst (AreOfFeed (served s)) (sym (bytes_more views v))
     (all_of_feed _ _ _ before (subst (IsOfFeed (served s)) same (rw (places_in s (bytes_in views) _ is) at of)))
-
--- the cutter has handed out one record more
-pub handed_on : (r : Result (Option RecordView) StreamFault) (o : Option RecordView) (view : RecordView) (P : List View
-    → Type 0) → r ≡ Ok o → o ≡ Some view → IfGoesOn r P → P (view_of view ∷ [])
-handed_on r o view P is some goes =
-    subst (λ (q : Result (Option RecordView) StreamFault). IfGoesOn q P) (is ∙ ap Ok some) goes
 
 -- the next record, by whether a ring accepted it
 pub pushed_next : (s : Serving) (views : List View) (view : View) (bytes : List ℕ) (number : ℕ)
@@ -294,6 +233,3 @@ pub broken_off : (X : Type 0) (s : Serving) (fault : StreamFault) (h : BytesRead
     → h.failures ≡ failed_by {X = X} (Err fault) → IsFilling s (Err (Stream fault)) h
 broken_off X s Memory h views each all failed = failed
 broken_off X s fault h views each all failed = record { views = views; all = all; each = each }
-
-pub number_of : {n : ℕ} (views : List View) → n ≡ length views → n + 1 ≡ length views + 1
-number_of views is = ap (λ (m : ℕ). m + 1) is

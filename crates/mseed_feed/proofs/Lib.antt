@@ -2,4 +2,5 @@ pub mod Fills
 pub mod OneFilling
 pub mod Numbered
 mod Kept
+mod InTurn
 mod Served

@@ -14,14 +14,20 @@ use Rattle.mseed_words.specs.declared.request.Fetching.{Fetching}
 use Rattle.mseed_words.specs.declared.request.Serving.{Serving}
 use Rattle.mseed_feed.specs.Filling.{IsFilling, IsOneFilling}
 use Rattle.mseed_feed.specs.Plans.{fill_lines, first_client, keeps_lines}
-use Rattle.mseed_feed.specs.Unlistened.{HasServedUnlessRefused}
+use Rattle.mseed_feed.specs.InTurn.{HasServedInTurn, IsListenedInTurn}
+use Rattle.mseed_feed.specs.Listened.{Heard}
 
--- by what filling the feed came to: the lines of its rings were written, and it was served at the address and port that
--- were requested, if the port could be had; or status 2, and the lines of what is wrong with the input
-abbrev pub IsServedBy : Serving → Result (List Window) InputFault → ℕ → BytesWritten → BytesWritten → Type 0
-IsServedBy serving (Ok feed) status old new = (reported : BytesWritten)
-    × AreReported (keeps_lines serving feed) old reported × HasServedUnlessRefused serving.listener status reported new
-IsServedBy serving (Err fault) status old new = (status ≡ 2) × AreReported (fill_lines fault) old new
+-- by what filling the feed came to: the lines of its rings were written, and it was served to as many connections as
+-- were requested, by all that happened where it was listened, at the address and port that were requested; or status 2,
+-- the lines of what is wrong with the input, and nobody listened
+abbrev pub IsServedBy : Serving → Result (List Window) InputFault → ℕ → BytesWritten → BytesWritten → Heard → Heard
+    → Type 0
+IsServedBy serving (Ok feed) status old new before after = (reported : BytesWritten)
+    × AreReported (keeps_lines serving feed) old reported
+    × IsListenedInTurn serving.listener after.planned
+    × HasServedInTurn serving.listener serving.connections feed after.came status reported new
+IsServedBy serving (Err fault) status old new before after =
+    (status ≡ 2) × AreReported (fill_lines fault) old new × (after ≡ before)
 
 -- what was read of an input from its first byte on: a beginning of what it is known to have, and all of it where the
 -- input is at its end
@@ -31,11 +37,12 @@ pub record HasReadInput (left : Option (List ℕ)) (apart : Beside) (read : Byte
   pub reads : ReadsOn nothing_read read left rest apart later
 
 -- A feed was filled by what was read of an input, which decides it but for memory, and served where it could be.
-pub record HasServedInput (serving : Serving) (read : BytesRead) (status : ℕ) (old new : BytesWritten) : Type 0 where
+pub record HasServedInput (serving : Serving) (read : BytesRead) (status : ℕ) (old new : BytesWritten)
+    (before after : Heard) : Type 0 where
   pub outcome : Result (List Window) InputFault
   pub filling : IsFilling serving outcome read
   pub only : IsOneFilling serving outcome read
-  pub served : IsServedBy serving outcome status old new
+  pub served : IsServedBy serving outcome status old new before after
 
 -- the server from which was requested
 abbrev pub server_of : Fetching → Server

@@ -1,7 +1,8 @@
 pub mod Filling
 pub mod Plans
 pub mod Unlistened
-pub mod Commands
 pub mod Listened
+pub mod InTurn
+pub mod Commands
 pub mod Live
 pub mod private

@@ -1,4 +1,4 @@
--- Where a live server listens, and what comes of it.
+-- Where a server listens, and what comes of it.
 use Rattle.std.specs.Prelude.{◌≡◌, Bool, List, Option, Some, None, option_map}
 use Rattle.std.specs.Duration.{as_nanos}
 use Rattle.std.specs.Net.Addr.{ipv4_octets}
@@ -8,24 +8,30 @@ use Rattle.std.specs.declared.net.ipv4_addr.Ipv4Addr.{Ipv4Addr}
 use Rattle.slink_wire.specs.Hosts.{limit_in}
 use Rattle.slink_live.specs.Happening.{Happening}
 use Rattle.slink_links.specs.Happened.{happened}
+use Rattle.slink_links.specs.Taken.{Taken, taken_by}
 use Rattle.slink_links.specs.declared.live_tcp.LivePlan.{LivePlan}
 use Rattle.mseed_words.specs.declared.request.LiveServing.{LiveServing}
+use Rattle.mseed_feed.specs.declared.listening.Planned.{Planned}
+use Rattle.mseed_feed.specs.declared.listening.Planned.TheVariants.{Live, InTurn as in_turn}
 use Rattle.mseed_feed.specs.declared.listening.Refusal.{Refusal}
 use Rattle.mseed_feed.specs.declared.listening.Outcome.{Outcome}
 use Rattle.mseed_feed.specs.declared.listening.Outcome.TheVariants as outcomes
 use Rattle.mseed_feed.specs.declared.listening.TcpListening.{TcpListening}
 
--- It wasn't listened yet; or that was refused; or all of this happened at the device, and whether it failed.
+-- It wasn't listened yet; or that was refused; or all of this happened at the device, and whether it failed; or this is
+-- known of the links that were taken one after another.
 pub data Listened : Type 0 where
   NotYet : Listened
   Refused : (refusal : Refusal) → Listened
   Over : (log : List Happening) (has_failed : Bool) → Listened
+  InTurn : (links : Taken) → Listened
 
 -- what came of listening over TCP
 abbrev pub came_by : {N I : Type 0} → Outcome N I → Listened
 came_by outcomes.NotYet = NotYet
 came_by (outcomes.Refused refusal) = Refused refusal
 came_by (outcomes.Over device has_failed) = Over (happened device) has_failed
+came_by (outcomes.InTurn log) = InTurn (taken_by log)
 
 abbrev pub came_of : {N I : Type 0} → TcpListening N I → Listened
 came_of l = came_by l.outcome
@@ -41,13 +47,14 @@ pub record IsPlanFor (live : LiveServing) (plan : LivePlan) : Type 0 where
 
 -- what is known of where links are taken: by what plan it was listened there, if it was, and what came of it
 pub record Heard : Type 0 where
-  pub planned : Option LivePlan
+  pub planned : Option Planned
   pub came : Listened
 
-abbrev pub heard : Option LivePlan → Listened → Heard
+abbrev pub heard : Option Planned → Listened → Heard
 heard planned came = record { planned = planned; came = came }
 
 -- The plan that was listened by is that.
-abbrev pub IsListenedFor : LiveServing → Option LivePlan → Type 0
+abbrev pub IsListenedFor : LiveServing → Option Planned → Type 0
 IsListenedFor live None = ⊥
-IsListenedFor live (Some plan) = IsPlanFor live plan
+IsListenedFor live (Some (Live plan)) = IsPlanFor live plan
+IsListenedFor live (Some (in_turn listener)) = ⊥

@@ -15,7 +15,7 @@ use Rattle.slink_live.specs.Turns.{HasSteps, Stands}
 use Rattle.mseed_files.specs.InputFiles.{no_memory}
 use Rattle.mseed_words.specs.declared.request.LiveServing.{LiveServing}
 use Rattle.mseed_feed.specs.Filling.{feed_of}
-use Rattle.mseed_feed.specs.Listened.{Listened, NotYet, Over, Refused}
+use Rattle.mseed_feed.specs.Listened.{InTurn, Listened, NotYet, Over, Refused}
 use Rattle.mseed_feed.specs.Plans.{fill_lines}
 use Rattle.mseed_feed.specs.Unlistened.{IsUnlistened}
 use Rattle.mseed_feed.specs.declared.listening.Refusal.TheVariants.{Memory, Port}
@@ -31,7 +31,7 @@ pub data EndsWith (s : ServerState) (has_failed : Bool) (due status : ℕ) (old 
   cut_off : has_failed ≡ true → status ≡ 2 → WritesLine (codes "mseed: link failed\n") old new
       → EndsWith s has_failed due status old new
 
--- A server of these rings, with a slot for each of so many clients, went on step by step, as the log of all that
+-- A server of these rings, with a slot for each of `clients` clients, went on step by step, as the log of all that
 -- happened says. Nothing was wrong with the input, by its steps. Or something was, and it is read no further: standard
 -- error got the line of that, and the server went on from there with the links that stood, to the end or until 2^40
 -- events had come.
@@ -66,3 +66,4 @@ HasServedAt live (Refused (Port fault)) status old new = IsUnlistened live.servi
 HasServedAt live (Refused Memory) status old new = (status ≡ 2) × WritesLine no_memory old new
 HasServedAt live (Over log has_failed) status old new =
     HasServed (feed_of live.serving []) live.clients has_failed log status old new
+HasServedAt live (InTurn links) status old new = ⊥

@@ -1,11 +1,10 @@
 -- What is reported where the port can't be had that was requested.
-use Rattle.std.specs.Prelude.{◌≡◌, ℕ, List, [], ◌∷◌, ◌++◌, ◌⊎◌, codes, decimal}
+use Rattle.std.specs.Prelude.{◌≡◌, ℕ, List, [], ◌∷◌, ◌++◌, codes, decimal}
 use Rattle.std.specs.Net.Text.{ipv4_text}
 use Rattle.mseed_stream.specs.Device.{BytesWritten}
 use Rattle.slink_wire.specs.declared.host.Address.{Address}
 use Rattle.slink_feed.specs.Reporter.{AreReported}
 use Rattle.slink_links.specs.ListenFault.{listen_text}
-use Rattle.slink_links.specs.Served.{HasServed}
 use Rattle.slink_links.specs.declared.listen_fault.ListenFault.{ListenFault}
 use Rattle.mseed_words.specs.declared.request.Endpoint.{Endpoint}
 
@@ -22,8 +21,3 @@ listen_lines listener fault = codes "mseed: link failed\n" ∷ cannot_listen lis
 -- The port can't be had: status 2, and both lines.
 abbrev pub IsUnlistened : Endpoint Address → ListenFault → ℕ → BytesWritten → BytesWritten → Type 0
 IsUnlistened listener fault status old new = (status ≡ 2) × AreReported (listen_lines listener fault) old new
-
--- Connections were served one after another, unless the port was refused, for one of the reasons.
-abbrev pub HasServedUnlessRefused : Endpoint Address → ℕ → BytesWritten → BytesWritten → Type 0
-HasServedUnlessRefused listener status old new =
-    HasServed status old new ⊎ ((fault : ListenFault) × IsUnlistened listener fault status old new)

@@ -1,10 +1,10 @@
 //! The program's commands of a feed: `serve`, `serve --live` and `fetch`, from what the arguments request to the exit
 //! status.
 //!
-//! [`serve`] fills the rings of a feed with the records of an input and then serves them over one connection after
-//! another. [`serve_live_at`] serves many clients at once while the records of an input come, wherever one can
-//! [`Listen`], as a [`TcpListening`] does over TCP, and [`serve_live`] does so over any [`Device`]. [`fetch`] writes
-//! the records that a server sends.
+//! Wherever one can [`Listen`], as a [`TcpListening`] does over TCP, [`serve`] fills the rings of a feed with the
+//! records of an input and then serves them over one connection after another, and [`serve_live_at`] serves many
+//! clients at once while the records of an input come; [`serve_live`] does so over any [`Device`]. [`fetch`] writes the
+//! records that a server sends.
 #![tactic(auto)]
 
 mod commands;
@@ -18,6 +18,6 @@ mod refusal;
 
 pub use commands::{fetch, serve};
 pub use law::{kept_by_records, one_filling};
-pub use listening::{Device, Listen, Refusal, TcpListening};
+pub use listening::{Device, Listen, Planned, Refusal, TcpListening};
 pub use live::{serve_live, serve_live_at};
 pub use planning::{plan_fetch, plan_serve};

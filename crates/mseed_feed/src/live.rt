@@ -106,7 +106,8 @@ fn server_of(alloc: Global, live: &LiveServing) -> Result<Server, AllocError>
 fn serve_to_the_end<R: Device, E: Sink>(server: &mut Server, ready: &mut R, errors: &mut E) -> u8
     requires sound { IsSound server.old }
     requires new { R.log ready.old ≡ [] }
-    ensures { (start : List Window) → IsServing start server.old [] → IsAwake server.old []
+    ensures { (start : List Window) → IsServing start server.old (R.log ready.old)
+        → IsAwake server.old (R.log ready.old)
         → HasServed start (length server.old.links) (R.has_failed ready.new) (R.log ready.new) result
         (E.written errors.old) (E.written errors.new) }
 {

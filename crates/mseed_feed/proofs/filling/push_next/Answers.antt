@@ -1,27 +1,23 @@
-use Rattle.std.proofs.Common.{◌≡◌, ℕ, ◌++◌, ◌∷◌, [], ◌∙◌, List, length, take, subst, sym, ap, arith, rules}
+use Rattle.std.proofs.Common.{◌++◌, ◌∷◌, [], ap, arith, rules}
 use Rattle.std.proofs.lemmas.Result.{err_from_is_err_and}
 use Rattle.mseed_record.specs.View.{View}
 use Rattle.mseed_record.specs.Viewing.{view_of}
 use Rattle.mseed_record.specs.declared.view.RecordView.{RecordView}
-use Rattle.mseed_stream.specs.Cutting.{IsAhead}
 use Rattle.mseed_stream.specs.Device.{BytesRead}
 use Rattle.mseed_stream.specs.Walk.{HasHandedOut}
 use Rattle.mseed_stream.specs.declared.fault.StreamFault.{StreamFault}
 use Rattle.mseed_stream.proofs.Calls.{reads_next, reads_whole}
-use Rattle.mseed_feed.proofs.Fills.{broken_off, handed_on, pushed_next}
+use Rattle.mseed_feed.proofs.Fills.{broken_off, pushed_next}
 use Rattle.mseed_feed.proofs.filling.push_next.Goals as goal
 
 pub returns-in-Some-clause-pushed : goal.returns-in-Some-clause-pushed
 returns-in-Some-clause-pushed g c = λ serving views can filled number.
     let view : View = view_of c.in-Some.view in
-    let lent : List ℕ = g.R.Source.lent c.args.input.now in
     let is = c.in-Some.ensures.record in
-    let same : view.bytes ≡ take (length c.bytes-size.result.now) lent =
-    is.1 ∙ ap (λ (xs : List ℕ). take (length xs) lent) (sym c.bytes-size.ensures.value) in
     pushed_next serving views view c.bytes.result.now c.args.number c.answer.result c.take_record-taken.result
     c.args.feed.now c.take_record-taken.new.self (g.R.Source.read c.args.input.now)
     (g.R.Source.read c.pass.new.source) c.pass.new.self can c.bytes.ensures.value
-    (c.pass.ensures.handed views view filled.handed is.0 same)
+    (c.pass.ensures.handed views view filled.handed is.0 (rw c.bytes-size.ensures.value is.1))
     (omega (arith, ap (λ (h : BytesRead). h.calls) c.pass.ensures.reported)) filled.each filled.feed_is number
     c.take_record-taken.ensures.of c.take_record-taken.ensures.pushed c.take_record-taken.ensures.foreign
     c.take_record-taken.ensures.fault c.answer.ensures.ok c.answer.ensures.err
@@ -33,8 +29,7 @@ returns-in-Some-2-clause-pushed g c = λ serving views can filled number.
     let some = c.in-Some-2.is in
     let called = rw some at c.in_ok-view.ensures.called in
     let handed : HasHandedOut read c.next.follows.lender-at-none (views ++ view ∷ []) =
-    handed_on _ _ c.in-Some-2.view _ c.in_ok-view.was c.in-Some-2.is (c.next.follows.holds-at-none.4 views
-    filled.handed) in
+    rw (c.in_ok-view.was, some) at c.next.follows.holds-at-none.4 views filled.handed in
     pushed_next serving views view c.bytes-in-Some-2.result.now c.args.number c.answer-in-Some-2.result
     c.take_record.result c.args.feed.now c.take_record.new.self (g.R.Source.read c.args.input.now) read
     c.next.follows.lender-at-none can c.bytes-in-Some-2.ensures.value handed called filled.each filled.feed_is
@@ -58,8 +53,7 @@ returns-in_err-view-clause-pushed g c = λ serving views can filled number.
 
 pub pass-requires-clause-ahead : goal.pass-requires-clause-ahead
 pass-requires-clause-ahead g c =
-    subst (λ (xs : List ℕ). IsAhead (length xs) c.args.cutter.now (g.R.Source.lent c.args.input.now))
-    (sym c.bytes-size.ensures.value) c.in-Some.ensures.ahead
+    rw c.bytes-size.ensures.value c.in-Some.ensures.ahead
 
 pub take_record-requires : goal.take_record-requires
 take_record-requires g c = (search rules, c.requires.room)

@@ -1,7 +1,5 @@
-use Rattle.std.proofs.Common.{List, arith, subst, take_all}
-use Rattle.slink_feed.specs.Reporter.{AreReported, none}
-use Rattle.slink_feed.specs.Window.{Window}
-use Rattle.mseed_feed.specs.Plans.{keeps_lines}
+use Rattle.std.proofs.Common.{arith, take_all}
+use Rattle.slink_feed.specs.Reporter.{none}
 use Rattle.mseed_feed.proofs.Kept.{reported_more}
 use Rattle.mseed_feed.proofs.keeping.report_kept.Goals as goal
 
@@ -15,7 +13,5 @@ loop-k-preserved g c =
 
 pub returns : goal.returns
 returns g c =
-    subst (λ (ws : List Window). AreReported (keeps_lines c.args.serving.now ws) (g.E.Sink.written c.args.errors.now)
-    (g.E.Sink.written c.loop-k.errors))
-    (take_all c.loop-k.k c.args.feed.now (omega (arith, c.len-k-end.ensures.value, c.loop-k-test.false)))
-    c.loop-k.invariant
+    rw (take_all c.loop-k.k c.args.feed.now (omega (arith, c.len-k-end.ensures.value, c.loop-k-test.false)))
+    at c.loop-k.invariant
