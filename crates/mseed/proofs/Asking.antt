@@ -9,7 +9,7 @@ use Rattle.mseed_words.specs.declared.refusal.Refusal.{Refusal}
 use Rattle.mseed_words.specs.declared.refusal.Refusal.TheVariants.{Text, NoRequest, Memory}
 use Rattle.mseed_words.specs.declared.request.Command.{Command}
 use Rattle.mseed_words.specs.declared.request.Request.{Request}
-use Rattle.mseed.specs.Asked.{HasRefusedRequest, HasRefusedWords, IsAsked, UnlessMemoryLacks}
+use Rattle.mseed.specs.Asked.{HasRefusedRequest, IsAsked, UnlessMemoryLacks}
 use Rattle.mseed.specs.Done.{EndsRefused, ReportsMistake}
 
 -- what a reading asks for, and this where it asks for nothing
@@ -52,41 +52,32 @@ given_in other (asks_for r) = other
 given_in other refused = other
 
 -- what was refused for a mistake is reported so
-pub refused_request : (reading : Reading) (r : Refusal) (status : ℕ) (old new : BytesWritten) (m : Mistake)
-    (given : List ℕ) → IsRefusal reading r → EndsRefused r status old new → reading ≡ mistaken m given
-    → UnlessMemoryLacks (HasRefusedRequest m given) (Err status) old new
-refused_request reading (Text text) status old new m given why ends is =
+pub refused_request : (words : List (List ℕ)) (reading : Reading) (r : Refusal) (status : ℕ) (old new : BytesWritten)
+    (m : Mistake) (given : List ℕ) → IsRefusal reading r → EndsRefused words r status old new
+    → reading ≡ mistaken m given → UnlessMemoryLacks (HasRefusedRequest words m given) (Err status) old new
+refused_request words reading (Text text) status old new m given why ends is =
     absurd (let bad : refused ≡ mistaken m given = sym why ∙ is in cc bad)
-refused_request reading (NoRequest k g) status old new m given why ends is =
+refused_request words reading (NoRequest k g) status old new m given why ends is =
     let same : mistaken k g.now ≡ mistaken m given = sym why ∙ is in
     let one : k ≡ m = ap (mistake_in k) same in
     let other : g.now ≡ given = ap (given_in g.now) same in
     inl (
       ends.0,
-      subst (λ (q : Mistake). ReportsMistake q given old new) one
-          (subst (λ (t : List ℕ). ReportsMistake k t old new) other ends.1),
+      subst (λ (q : Mistake). ReportsMistake words q given old new) one
+          (subst (λ (t : List ℕ). ReportsMistake words k t old new) other ends.1),
     )
-refused_request reading Memory status old new m given why ends is = inr ends
-
--- what the parser refuses is reported so
-pub refused_words : (reading : Reading) (r : Refusal) (status : ℕ) (old new : BytesWritten)
-    → IsRefusal reading r → EndsRefused r status old new → reading ≡ refused
-    → UnlessMemoryLacks HasRefusedWords (Err status) old new
-refused_words reading (Text text) status old new why ends is = inl ends.0
-refused_words reading (NoRequest k g) status old new why ends is =
-    absurd (let bad : mistaken k g.now ≡ refused = sym why ∙ is in cc bad)
-refused_words reading Memory status old new why ends is = inr ends
+refused_request words reading Memory status old new m given why ends is = inr ends
 
 -- what is asked for is refused for want of memory alone
-pub refused_anyway : (reading : Reading) (r : Refusal) (status : ℕ) (old new : BytesWritten) (request : Request)
-    (asked : Option Selection) (files : List (List ℕ)) → IsRefusal reading r → EndsRefused r status old new
-    → reading ≡ asks_for (requested request asked files)
+pub refused_anyway : (words : List (List ℕ)) (reading : Reading) (r : Refusal) (status : ℕ) (old new : BytesWritten)
+    (request : Request) (asked : Option Selection) (files : List (List ℕ)) → IsRefusal reading r
+    → EndsRefused words r status old new → reading ≡ asks_for (requested request asked files)
     → UnlessMemoryLacks (IsAsked request asked files) (Err status) old new
-refused_anyway reading (Text text) status old new request asked files why ends is =
+refused_anyway words reading (Text text) status old new request asked files why ends is =
     absurd (let bad : refused ≡ asks_for (requested request asked files) = sym why ∙ is in cc bad)
-refused_anyway reading (NoRequest k g) status old new request asked files why ends is =
+refused_anyway words reading (NoRequest k g) status old new request asked files why ends is =
     absurd (let bad : mistaken k g.now ≡ asks_for (requested request asked files) = sym why ∙ is in cc bad)
-refused_anyway reading Memory status old new request asked files why ends is = inr ends
+refused_anyway words reading Memory status old new request asked files why ends is = inr ends
 
 -- what asks for something isn't refused
 pub asks_no_mistake : (reading : Reading) (r : Requested) (m : Mistake) (given : List ℕ) → reading ≡ asks_for r

@@ -40,19 +40,18 @@ Does found words command status old new before after =
 
 -- It is the one that was asked for.
 pub effect : (E : Type 0) (found : List ℕ → Found) (words : List (List ℕ)) (command : Command) (request : Request)
-    (asked : Option Selection) (files : List (List ℕ)) (r : Result ℕ E) (w0 w1 w2 e0 e1 e2 : BytesWritten)
-    (before after : Heard) → w1 ≡ w0
-    → (IsAsked request asked files (Ok command) e0 e1 ⊎ LacksMemory (Ok command) e0 e1)
+    (asked : Option Selection) (files : List (List ℕ)) (r : Result ℕ E) (w0 w1 e0 e1 e2 : BytesWritten)
+    (before after : Heard) → (IsAsked request asked files (Ok command) e0 e1 ⊎ LacksMemory (Ok command) e0 e1)
     → IfOk r (λ status. (read : BytesRead)
-    × Does found words command status (streams nothing_read w1 e1) (streams read w2 e2) before after)
+    × Does found words command status (streams nothing_read w0 e1) (streams read w1 e2) before after)
     → IfOk r (λ status. (read : BytesRead)
-    × HasEffect found words request asked files status (streams nothing_read w0 e0) (streams read w2 e2) before after)
-effect E found words command request asked files (Err e) w0 w1 w2 e0 e1 e2 before after unwritten is run = tt
-effect E found words command request asked files (Ok status) w0 w1 w2 e0 e1 e2 before after unwritten (inr lacks) run =
+    × HasEffect found words request asked files status (streams nothing_read w0 e0) (streams read w1 e2) before after)
+effect E found words command request asked files (Err e) w0 w1 e0 e1 e2 before after is run = tt
+effect E found words command request asked files (Ok status) w0 w1 e0 e1 e2 before after (inr lacks) run =
     absurd lacks
-effect E found words command request asked files (Ok status) w0 w1 w2 e0 e1 e2 before after unwritten (inl is) run =
-    let old : Streams = streams nothing_read w1 e1 in
-    let new : Streams = streams run.0 w2 e2 in
+effect E found words command request asked files (Ok status) w0 w1 e0 e1 e2 before after (inl is) run =
+    let old : Streams = streams nothing_read w0 e1 in
+    let new : Streams = streams run.0 w1 e2 in
     let names : List (List ℕ) = map (λ file. file.now) command.files.items in
     let a : HasDone found words request (option_map selection_of command.selector) names status old new before after =
     subst (λ (q : Request).
@@ -60,11 +59,8 @@ effect E found words command request asked files (Ok status) w0 w1 w2 e0 e1 e2 b
     let b : HasDone found words request asked names status old new before after =
     subst (λ (s : Option Selection). HasDone found words request s names status old new before after) is.1 a in
     let d : HasDone found words request asked files status old new before after =
-    subst (λ (fs : List (List ℕ)). HasDone found words request asked fs status old new before after) is.2 b in
-    let f : HasDone found words request asked files status (streams nothing_read w0 e1) new before after =
-    subst (λ (w : BytesWritten).
-    HasDone found words request asked files status (streams nothing_read w e1) new before after) unwritten d in (
+    subst (λ (fs : List (List ℕ)). HasDone found words request asked fs status old new before after) is.2 b in (
       run.0,
       inl (subst (λ (e : BytesWritten).
-          HasDone found words request asked files status (streams nothing_read w0 e) new before after) is.3 f),
+          HasDone found words request asked files status (streams nothing_read w0 e) new before after) is.3 d),
     )

@@ -21,7 +21,7 @@ pub from_arguments : {F L E : Type 0} (given : Option (List (List ℕ))) (words 
     → IfOk result (λ status. (read : BytesRead) × HasEffect found words request asked named status
     (streams nothing_read w0 e0) (streams read w1 e1) before after))
     → ((mistake : Mistake) (bad : List ℕ) → AsksForNothing texts mistake bad
-    → IfOk result (λ status. IsRefusedBy (UnlessMemoryLacks (HasRefusedRequest mistake bad)) status
+    → IfOk result (λ status. IsRefusedBy (UnlessMemoryLacks (HasRefusedRequest words mistake bad)) status
     (streams nothing_read w0 e0) (streams nothing_read w1 e1)))
     → (AreRefused texts → IfOk result (λ status. IsRefusedBy (UnlessMemoryLacks HasRefusedWords) status
     (streams nothing_read w0 e0) (streams nothing_read w1 e1)))

@@ -19,9 +19,10 @@ IsAsked request asked files (Ok command) old new =
 IsAsked request asked files (Err status) old new = ⊥
 
 -- the words ask for nothing that there is, since something is wrong with what was given: a line more says what
-abbrev pub HasRefusedRequest : Mistake → List ℕ → Result Command ℕ → BytesWritten → BytesWritten → Type 0
-HasRefusedRequest mistake given (Ok command) old new = ⊥
-HasRefusedRequest mistake given (Err status) old new = (status ≡ 3) × ReportsMistake mistake given old new
+abbrev pub HasRefusedRequest : List (List ℕ) → Mistake → List ℕ → Result Command ℕ → BytesWritten → BytesWritten
+    → Type 0
+HasRefusedRequest words mistake given (Ok command) old new = ⊥
+HasRefusedRequest words mistake given (Err status) old new = (status ≡ 3) × ReportsMistake words mistake given old new
 
 -- the words aren't those of a command line; the text on standard error is that of `clap`
 abbrev pub HasRefusedWords : Result Command ℕ → BytesWritten → BytesWritten → Type 0

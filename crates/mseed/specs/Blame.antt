@@ -1,6 +1,6 @@
 -- What is wrong with an input, by what a command came to.
-use Rattle.mseed_join.specs.declared.fault.JoinsFault.{JoinsFault}
-use Rattle.mseed_join.specs.declared.fault.JoinsFault.TheVariants as joins
+use Rattle.mseed_join.specs.declared.fault.JoinFault.{JoinFault}
+use Rattle.mseed_join.specs.declared.fault.JoinFault.TheVariants as joins
 use Rattle.mseed_repack.specs.declared.fault.RepackFault.{RepackFault}
 use Rattle.mseed_repack.specs.declared.fault.RepackFault.TheVariants as packing
 use Rattle.mseed_files.specs.Blame.{blame_of}
@@ -8,7 +8,7 @@ use Rattle.mseed_files.specs.declared.blame.Blame.{Blame}
 use Rattle.mseed_files.specs.declared.blame.Blame.TheVariants as blames
 
 -- of parts that weren't joined: a bad line lies where it begins; a wrong number of parts lies nowhere
-abbrev pub join_blame : JoinsFault → Blame
+abbrev pub join_blame : JoinFault → Blame
 join_blame (joins.Line number offset flaw) = blames.Fault offset
 join_blame (joins.Stream fault) = blame_of fault
 join_blame fault = blames.Nothing

@@ -113,14 +113,14 @@ abbrev pub IsRefusedBy : (Result Command ℕ → BytesWritten → BytesWritten �
 IsRefusedBy Refuses status old new = Refuses (Err status) old.errors new.errors × (new.output ≡ old.output)
 
 -- What a request comes to: its exit status, what was read and written, and what is known of where links are taken. Only
--- `fetch` writes what it doesn't read. Only `serve --live` listens: by the plan that is requested, and what it comes to
--- is by all that happened there.
+-- `fetch` writes what it doesn't read. Only `serve` and `serve --live` listen: by what is requested, and what they come
+-- to is by all that happened there.
 abbrev pub HasDone : (List ℕ → Found) → List (List ℕ) → Request → Option Selection → List (List ℕ) → ℕ → Streams
     → Streams → Heard → Heard → Type 0
 HasDone found words (Serve serving) asked files status old new before after =
     HasReadOf (bytes_of (found (codes "-")) ∷ []) new.input
-    × HasServedInput serving new.input status old.errors new.errors
-    × (new.output ≡ old.output) × (after ≡ before)
+    × HasServedInput serving new.input status old.errors new.errors before after
+    × (new.output ≡ old.output)
 HasDone found words (Live live) asked files status old new before after =
     IsListenedFor live after.planned
     × HasServedAt live after.came status old.errors new.errors
@@ -146,7 +146,7 @@ pub record HasComeTo {F L : Type 0} (found : List ℕ → Found) (words texts : 
       → AsksFor texts request asked named → (read : BytesRead) × HasEffect found words request asked named status
       (streams nothing_read written reported) (streams read written' reported') before after
   pub bad : (mistake : Mistake) (given : List ℕ) → AsksForNothing texts mistake given
-      → IsRefusedBy (UnlessMemoryLacks (HasRefusedRequest mistake given)) status
+      → IsRefusedBy (UnlessMemoryLacks (HasRefusedRequest words mistake given)) status
       (streams nothing_read written reported) (streams nothing_read written' reported')
   pub refused : AreRefused texts → IsRefusedBy (UnlessMemoryLacks HasRefusedWords) status
       (streams nothing_read written reported) (streams nothing_read written' reported')

@@ -14,8 +14,8 @@ use Rattle.mseed_join.specs.declared.flaw.Flaw.{Flaw}
 use Rattle.mseed_join.specs.declared.flaw.Flaw.TheVariants.{Beginning, Row, Order, Ending, Limit, Long, Unended}
 use Rattle.mseed_join.specs.declared.flaw.Flaw.TheVariants.{Missing}
 use Rattle.mseed_join.specs.declared.joining.Joined.{Joined}
-use Rattle.mseed_join.specs.declared.fault.JoinsFault.{JoinsFault}
-use Rattle.mseed_join.specs.declared.fault.JoinsFault.TheVariants.{Line, Count, Stream, Write, Memory}
+use Rattle.mseed_join.specs.declared.fault.JoinFault.{JoinFault}
+use Rattle.mseed_join.specs.declared.fault.JoinFault.TheVariants.{Line, Count, Stream, Write, Memory}
 use Rattle.mseed.specs.Blame.{join_blame}
 use Rattle.mseed_files.specs.InputFiles.{no_memory}
 use Rattle.mseed.specs.Outcome.{EndsBy, Report, with_line, without_line, write_failed}
@@ -108,7 +108,7 @@ bad_line_text number flaw =
     codes "mseed: bad part at line " ++ decimal number ++ codes "\nmseed: " ++ flaw_text flaw ++ codes "\n"
 
 -- the line of a fault; of a bad line these two
-abbrev pub join_fault_text : JoinsFault → List ℕ
+abbrev pub join_fault_text : JoinFault → List ℕ
 join_fault_text (Line number offset flaw) = bad_line_text number flaw
 join_fault_text (Count parts expected) =
     codes "mseed: " ++ decimal parts ++ codes " parts, not " ++ decimal expected ++ codes "\n"
@@ -117,9 +117,9 @@ join_fault_text Write = write_failed
 join_fault_text Memory = no_memory
 
 -- after the lines of the faults that were passed
-abbrev pub join_report : Result Joined JoinsFault → Report
+abbrev pub join_report : Result Joined JoinFault → Report
 join_report (Ok joined) = without_line (joined_status joined) Nothing
 join_report (Err fault) = with_line 2 (join_fault_text fault) (join_blame fault)
 
-abbrev pub EndsJoin : Result Joined JoinsFault → Ended → BytesWritten → BytesWritten → Type 0
+abbrev pub EndsJoin : Result Joined JoinFault → Ended → BytesWritten → BytesWritten → Type 0
 EndsJoin outcome ended old new = EndsBy (join_report outcome) ended old new

@@ -3,16 +3,16 @@ ghost use Rattle.std.specs.Prelude.{◌≡◌};
 ghost use Rattle.mseed.specs.Blame.{join_blame, packing_blame};
 
 use mseed_files::{Blame, blame_of};
-use mseed_join::JoinsFault;
+use mseed_join::JoinFault;
 use mseed_repack::RepackFault;
 
 /// What is wrong with parts that weren't joined: a bad line lies where it begins.
-pub fn join_blame(fault: &JoinsFault) -> Blame
+pub fn join_blame(fault: &JoinFault) -> Blame
     ensures { result ≡ join_blame fault.now }
 {
     match fault {
-        JoinsFault::Line { offset, .. } => Blame::Fault(*offset),
-        JoinsFault::Stream(fault) => blame_of(fault),
+        JoinFault::Line { offset, .. } => Blame::Fault(*offset),
+        JoinFault::Stream(fault) => blame_of(fault),
         _ => Blame::Nothing,
     }
 }

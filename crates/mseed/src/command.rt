@@ -1,11 +1,11 @@
 //! The command line: what its arguments request, and what is done with an input.
-ghost use Rattle.std.specs.Prelude.{◌≡◌, ℕ, IfOk, List, OnOk, Option, option_map, true};
+ghost use Rattle.std.specs.Prelude.{◌≡◌, ℕ, IfOk, List, map, OnOk, Option, option_map, true};
 ghost use Rattle.mseed_join.specs.declared.joining.Form.{Form};
 ghost use Rattle.mseed_select.specs.Selecting.{selection_of};
 ghost use Rattle.mseed_record.specs.Selection.{Selection};
 ghost use Rattle.mseed_stream.specs.Calls.{ReadsOn};
 ghost use Rattle.mseed_stream.specs.Device.{nothing_read};
-ghost use Rattle.mseed_words.specs.Arguments.{texts_in};
+ghost use Rattle.mseed_words.specs.Arguments.{texts_in, words_in};
 ghost use Rattle.mseed_words.specs.Files.{takes_files};
 ghost use Rattle.mseed_words.specs.Words.{AreRefused, AsksFor, AsksForNothing, CanBeCalled};
 ghost use Rattle.mseed_words.specs.declared.mistake.Mistake.{Mistake};
@@ -22,6 +22,7 @@ use crate::ending::{
 };
 use crate::outcome::Ended;
 use crate::refusal::refuse_memory;
+use crate::status::BAD_COMMAND;
 use mseed_audit::{audit_each_selected, audit_selected};
 use mseed_files::report_given;
 use mseed_join::{Form, audit_part, audit_part_each, join, join_each};
@@ -33,23 +34,19 @@ use mseed_stream::{Sink, Source, report};
 use mseed_words::{
     Command, CommandLine, Joining, Mistake, Packing, Refusal, Request, read, word_of,
 };
-use slink_links::BAD_COMMAND;
 use std::alloc::{Allocator, Global};
 
 /// Reads the words of a command line, and returns the command that they request: what it does, with which records, and
-/// of which files. Where they request nothing, `errors` takes why. The input and the output are lent so that a contract
-/// can say that they are left alone until the words are understood.
+/// of which files. Where they request nothing, `errors` takes why.
 ///
 /// # Errors
 ///
 /// The exit status, after what `errors` takes: 3 where the arguments aren't those of a command line (the text of the
 /// parser, which is also the help and the version) or request nothing that there is (`bad value`, and a line that says
 /// what is wrong with what was given, and what would be right), and 2 where there was no memory for them.
-pub fn command_of<'a, R: Source, W: Sink, E: Sink>(
+pub fn command_of<'a, E: Sink>(
     alloc: Global,
     line: &'a CommandLine,
-    input: &mut R,
-    output: &mut W,
     errors: &mut E,
 ) -> Result<Command<'a>, u8>
     ensures called { (request : Request) (asked : Option Selection) (files : List (List ℕ))
@@ -57,13 +54,12 @@ pub fn command_of<'a, R: Source, W: Sink, E: Sink>(
         → UnlessMemoryLacks (IsAsked request asked files) result (E.written errors.old) (E.written errors.new) }
     ensures bad { (mistake : Mistake) (given : List ℕ)
         → AsksForNothing (texts_in line.entry.now) mistake given
-        → UnlessMemoryLacks (HasRefusedRequest mistake given) result (E.written errors.old) (E.written errors.new) }
+        → UnlessMemoryLacks (HasRefusedRequest (words_in line.entry.now) mistake given) result
+        (E.written errors.old) (E.written errors.new) }
     ensures refused { AreRefused (texts_in line.entry.now)
         → UnlessMemoryLacks HasRefusedWords result (E.written errors.old) (E.written errors.new) }
     ensures range { IfOk result (λ command. CanBeCalled command.request) }
     ensures silent { OnOk result (E.written errors.new ≡ E.written errors.old) }
-    ensures unread { R.read input.new ≡ R.read input.old }
-    ensures unwritten { W.written output.new ≡ W.written output.old }
 {
     match read(alloc, &line.texts) {
         Ok(command) => Ok(command),
@@ -184,7 +180,8 @@ fn options_of(packing: Packing) -> Options
 
 /// Reports why the arguments of the command line request nothing, and returns the exit status.
 fn refuse<E: Sink>(errors: &mut E, refusal: &Refusal<'_>, arguments: &[Vec<u8>]) -> u8
-    ensures { EndsRefused refusal.now result (E.written errors.old) (E.written errors.new) }
+    ensures { EndsRefused (map (λ word. word.items) arguments.now) refusal.now result (E.written errors.old)
+        (E.written errors.new) }
 {
     match refusal {
         Refusal::Text(text) => {
@@ -205,7 +202,8 @@ fn refuse_mistake<'a, E: Sink>(
     arguments: &'a [Vec<u8>],
 ) -> u8
     ensures status { result ≡ 3 }
-    ensures reported { ReportsMistake mistake given.entry.now (E.written errors.old) (E.written errors.new) }
+    ensures reported { ReportsMistake (map (λ word. word.items) arguments.entry.now) mistake given.entry.now
+        (E.written errors.old) (E.written errors.new) }
 {
     report(errors, b"mseed: bad value\n");
     let argument = word_of(given, arguments);

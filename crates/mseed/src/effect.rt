@@ -17,7 +17,7 @@ use crate::command::command_of;
 use crate::files::{ROOM, run_over_named};
 use mseed_feed::{Listen, fetch, serve, serve_live_at};
 use mseed_files::{Chain, Files, STANDARD_INPUT};
-use mseed_stream::{Counted, Sink};
+use mseed_stream::Sink;
 use mseed_words::{Arguments, Command, CommandLine, Request};
 use std::io;
 
@@ -58,7 +58,7 @@ pub fn carry_out_arguments<G: Arguments, F: Files, L: Listen, W: Sink, E: Sink>(
 /// The contract holds over any standard input and any files, as `files` gives them: what was read is a beginning of
 /// their bytes, in the order of the words and each once, and all of them where the input is at its end. Of arguments
 /// that request nothing no file is opened or read. It holds wherever `listening` takes links, at which nobody listens
-/// yet: `serve --live` listens there, by the plan that is requested, and what it comes to is by all that happened
+/// yet: `serve` and `serve --live` listen there, as it is requested, and what they come to is by all that happened
 /// there; whatever else is requested, it is left alone.
 ///
 /// # Errors
@@ -83,7 +83,8 @@ pub fn carry_out<F: Files, L: Listen, W: Sink, E: Sink>(
         (heard (L.planned listening.new) (L.came listening.new))) }
     ensures bad { (mistake : Mistake) (given : List ℕ)
         → AsksForNothing (texts_in line.now) mistake given
-        → IfOk result (λ status. IsRefusedBy (UnlessMemoryLacks (HasRefusedRequest mistake given)) status
+        → IfOk result (λ status. IsRefusedBy
+        (UnlessMemoryLacks (HasRefusedRequest (words_in line.now) mistake given)) status
         (streams nothing_read (W.written output.old) (E.written errors.old))
         (streams nothing_read (W.written output.new) (E.written errors.new))) }
     ensures refused { AreRefused (texts_in line.now)
@@ -100,8 +101,7 @@ pub fn carry_out<F: Files, L: Listen, W: Sink, E: Sink>(
     ensures unreported { IfErr result (λ _. E.written errors.new ≡ E.written errors.old) }
     ensures unserved { IfErr result (λ _. listening.new ≡ listening.old) }
 {
-    let mut input = Counted::new(rt.reader());
-    match command_of(rt.alloc(), line, &mut input, output, errors) {
+    match command_of(rt.alloc(), line, errors) {
         Ok(command) => execute(rt, files, listening, &command, &line.words, output, errors),
         Err(status) => Ok(status),
     }
@@ -138,7 +138,7 @@ fn execute<F: Files, L: Listen, W: Sink, E: Sink>(
         Request::Serve(serving) => {
             let names = [STANDARD_INPUT];
             let input = Chain::new(rt.alloc(), files, &names, ROOM)?;
-            Ok(serve(rt, rt.alloc(), serving, input, errors))
+            Ok(serve(rt.alloc(), serving, input, listening, errors))
         }
         Request::Live(live) => Ok(serve_live_at(rt.alloc(), live, listening, errors)),
         Request::Fetch(fetching) => Ok(fetch(rt, fetching, output, errors)),

@@ -12,14 +12,15 @@ use crate::outcome::Ended;
 use crate::refusal::{
     refuse_input, refuse_memory, refuse_to_join, refuse_to_repack, refuse_to_stretch, write_failed,
 };
+use crate::status::BROKEN;
 use mseed_audit::{AuditFault, EachFault, SelectedSummary, Summary};
 use mseed_files::{blame_by, blame_of};
-use mseed_join::{Joined, JoinsFault};
+use mseed_join::{JoinFault, Joined};
 use mseed_repack::{LeftOut, RepackFault, report_without_time};
 use mseed_select::{SelectFault, Selected};
 use mseed_steim::Encoding;
 use mseed_stream::{Sink, StreamFault};
-use slink_links::{BROKEN, DONE, FAULT};
+use slink_links::{DONE, FAULT};
 
 /// Reports how many records lack a time, or why not all of an audit was written, and returns how it ended. A fault of
 /// the input is in the text.
@@ -71,7 +72,7 @@ fn summed_up<E: Sink>(found: &SelectedSummary, errors: &mut E) -> Ended
 }
 
 /// Reports why parts weren't joined, and returns how joining ended.
-pub fn joined<E: Sink>(outcome: Result<Joined, JoinsFault>, errors: &mut E) -> Ended
+pub fn joined<E: Sink>(outcome: Result<Joined, JoinFault>, errors: &mut E) -> Ended
     ensures { EndsJoin outcome result (E.written errors.old) (E.written errors.new) }
 {
     match outcome {

@@ -9,6 +9,7 @@ mod ending;
 mod files;
 mod outcome;
 mod refusal;
+mod status;
 
 use effect::carry_out_arguments;
 use mseed_feed::TcpListening;

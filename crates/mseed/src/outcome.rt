@@ -7,7 +7,7 @@ use mseed_files::Blame;
 /// How a command ended.
 #[derive(Clone, Copy)]
 pub struct Ended {
-    /// The exit status, one of those of `slink_links`.
+    /// The exit status.
     pub status: u8,
     /// What is wrong with the input, where more is to be said of it.
     pub blame: Blame,

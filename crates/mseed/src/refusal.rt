@@ -11,15 +11,16 @@ ghost use Rattle.mseed.specs.Outcome.{write_failed};
 ghost use Rattle.mseed.specs.Repacked.{refusal_status, refusal_text};
 ghost use Rattle.mseed.specs.Restretched.{stretches_text};
 
+use crate::status::BROKEN;
 use mseed_files::{report_fault, report_no_memory};
-use mseed_join::{Closing, Field, Flaw, JoinsFault};
+use mseed_join::{Closing, Field, Flaw, JoinFault};
 use mseed_pack::PackFault;
 use mseed_record::Codes;
 use mseed_repack::{RepackFault, report_broken, report_misfit};
 use mseed_steim::Encoding;
 use mseed_stream::{Sink, StreamFault, report};
 use mseed_text::Line;
-use slink_links::{BROKEN, FAULT};
+use slink_links::FAULT;
 
 /// Reports that the output failed, and returns the exit status.
 pub fn write_failed<E: Sink>(errors: &mut E) -> u8
@@ -74,16 +75,16 @@ pub fn refuse_to_stretch<E: Sink>(errors: &mut E, encoding: Encoding, fault: &Re
 }
 
 /// Reports why parts weren't joined, and returns the exit status.
-pub fn refuse_to_join<E: Sink>(errors: &mut E, fault: &JoinsFault) -> u8
+pub fn refuse_to_join<E: Sink>(errors: &mut E, fault: &JoinFault) -> u8
     ensures status { result ≡ 2 }
     ensures reported { WritesLine (join_fault_text fault.now) (E.written errors.old) (E.written errors.new) }
 {
     match fault {
-        JoinsFault::Line { number, flaw, .. } => refuse_line(errors, *number, flaw),
-        JoinsFault::Count(parts, expected) => refuse_count(errors, *parts, *expected),
-        JoinsFault::Stream(fault) => refuse_input(errors, fault),
-        JoinsFault::Write => write_failed(errors),
-        JoinsFault::Memory => refuse_memory(errors),
+        JoinFault::Line { number, flaw, .. } => refuse_line(errors, *number, flaw),
+        JoinFault::Count(parts, expected) => refuse_count(errors, *parts, *expected),
+        JoinFault::Stream(fault) => refuse_input(errors, fault),
+        JoinFault::Write => write_failed(errors),
+        JoinFault::Memory => refuse_memory(errors),
     }
 }
 
@@ -226,7 +227,7 @@ fn closing_text(closing: Closing) -> &'static str
 /// Reports how many parts were read, and that another number of them was expected, and returns the exit status.
 fn refuse_count<E: Sink>(errors: &mut E, parts: u64, expected: u64) -> u8
     ensures status { result ≡ 2 }
-    ensures reported { WritesLine (join_fault_text (JoinsFault.Count parts expected)) (E.written errors.old)
+    ensures reported { WritesLine (join_fault_text (JoinFault.Count parts expected)) (E.written errors.old)
         (E.written errors.new) }
 {
     let mut line = Line::new();

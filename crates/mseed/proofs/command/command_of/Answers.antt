@@ -17,10 +17,11 @@ returns-in-Ok-clause-refused g c refused =
 
 pub returns-in-Err-clause-called : goal.returns-in-Err-clause-called
 returns-in-Err-clause-called g c request asked files asks =
-    refused_anyway _ c.in-Err.refusal c.refuse.result _ _ request asked files
+    refused_anyway _ _ c.in-Err.refusal c.refuse.result _ _ request asked files
     (rw c.deref.ensures.value at c.in-Err.ensures.refused) c.refuse.ensures asks
 
 pub returns-in-Err-clause-bad : goal.returns-in-Err-clause-bad
 returns-in-Err-clause-bad g c mistake given nothing =
-    refused_request _ c.in-Err.refusal c.refuse.result _ _ mistake given
-    (rw c.deref.ensures.value at c.in-Err.ensures.refused) c.refuse.ensures nothing
+    refused_request _ _ c.in-Err.refusal c.refuse.result _ _ mistake given
+    (rw c.deref.ensures.value at c.in-Err.ensures.refused)
+    (rw c.deref-in-Err.ensures.value at c.refuse.ensures) nothing

@@ -14,7 +14,7 @@ returns-clause-reported g c =
     let tail = c.as_bytes-2.ensures.value ∙ c.after-tail.ensures.text in
     record {
       argument = argument;
-      argument_is = c.word_of-argument.ensures.itself;
+      argument_is = c.word_of-argument.ensures;
       reported = (
         between,
         (

@@ -7,13 +7,12 @@ use Rattle.mseed.proofs.effect.carry_out.Goals as goal
 pub returns-in-Ok-clause-called : goal.returns-in-Ok-clause-called
 returns-in-Ok-clause-called g c request asked files asks =
     effect _ (g.F.Files.found c.args.files.now) _ c.in-Ok.command request asked files c.execute.result
-    (g.W.Sink.written c.args.output.now) (g.W.Sink.written c.command_of.new.output)
-    (g.W.Sink.written c.execute.new.output)
+    (g.W.Sink.written c.args.output.now) (g.W.Sink.written c.execute.new.output)
     (g.E.Sink.written c.args.errors.now) (g.E.Sink.written c.command_of.new.errors)
     (g.E.Sink.written c.execute.new.errors)
     (heard (g.L.Listen.planned c.args.listening.now) (g.L.Listen.came c.args.listening.now))
     (heard (g.L.Listen.planned c.execute.new.listening) (g.L.Listen.came c.execute.new.listening))
-    c.command_of.ensures.unwritten (c.in-Ok.ensures.called request asked files asks)
+    (c.in-Ok.ensures.called request asked files asks)
     (rw c.deref.ensures.value at c.execute.ensures.done)
 
 pub returns-in-Ok-clause-bad : goal.returns-in-Ok-clause-bad
@@ -28,26 +27,21 @@ returns-in-Ok-clause-refused g c refused = elim (c.in-Ok.ensures.refused refused
   | inr command ↦ absurd command
 ]
 
-pub returns-in-Ok-clause-unwritten : goal.returns-in-Ok-clause-unwritten
-returns-in-Ok-clause-unwritten g c =
-    still _ c.execute.result _ _ _ c.command_of.ensures.unwritten c.execute.ensures.unwritten
-
 pub returns-in-Ok-clause-unreported : goal.returns-in-Ok-clause-unreported
 returns-in-Ok-clause-unreported g c =
     still _ c.execute.result _ _ _ c.in-Ok.ensures.silent c.execute.ensures.unreported
 
-pub returns-clause-called : goal.returns-clause-called
-returns-clause-called g c request asked files asks = elim (c.in-Err.ensures.called request asked files asks) [
+pub returns-in-Err-clause-called : goal.returns-in-Err-clause-called
+returns-in-Err-clause-called g c request asked files asks = elim (c.in-Err.ensures.called request asked files asks) [
   | inl command ↦ absurd command
-  | inr lacks ↦ (nothing_read, inr ((lacks, c.command_of.ensures.unwritten), refl))
+  | inr lacks ↦ (nothing_read, inr ((lacks, refl), refl))
 ]
 
-pub returns-clause-bad : goal.returns-clause-bad
-returns-clause-bad g c mistake given nothing =
-    (c.in-Err.ensures.bad mistake given nothing, c.command_of.ensures.unwritten)
+pub returns-in-Err-clause-bad : goal.returns-in-Err-clause-bad
+returns-in-Err-clause-bad g c mistake given nothing = (c.in-Err.ensures.bad mistake given nothing, refl)
 
-pub returns-clause-refused : goal.returns-clause-refused
-returns-clause-refused g c refused = (c.in-Err.ensures.refused refused, c.command_of.ensures.unwritten)
+pub returns-in-Err-clause-refused : goal.returns-in-Err-clause-refused
+returns-in-Err-clause-refused g c refused = (c.in-Err.ensures.refused refused, refl)
 
 pub returns-in-Ok-clause-unopened : goal.returns-in-Ok-clause-unopened
 returns-in-Ok-clause-unopened g c = (

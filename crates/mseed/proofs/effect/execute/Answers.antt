@@ -16,7 +16,6 @@ returns-in_ok-input-in-Serve-clause-done g c =
             c.in_ok-input-in-Serve.ensures c.serve.ensures.1,
         c.serve.ensures.2,
         refl,
-        refl,
       ),
     )
 
