@@ -4,7 +4,7 @@
  * call returns a code, writes its results where its caller says, and keeps nothing between calls: so threads may
  * call at once, on the same archive too, as long as each writes to memory of its own. Any bytes may be read: a call
  * returns, and never reads or writes outside of what it was given. What each call does is proved: see "The library for
- * C" in docs/promises/command.md of the sources.
+ * C keeps to its rooms" in docs/promises/command.md of the sources.
  *
  * What the caller has to keep, at every call:
  *
@@ -43,7 +43,7 @@ enum mseed_code
   /* malloc refused; nothing was written. */
   MSEED_NO_MEMORY = 3,
 
-  /* Why mseed_rows and mseed_read stopped: there is no row left; */
+  /* Why reading stopped: there is no row left; */
   MSEED_NO_ROW = 4,
   /* there are fewer places for samples than are needed; */
   MSEED_NO_ROOM = 5,
@@ -58,7 +58,7 @@ enum mseed_code
   MSEED_CHAIN = 18,
   /* no blockette 1000 gives the record's length; */
   MSEED_NO_1000 = 19,
-  /* the length exponent isn't in 7 to 20: its number is the exponent; */
+  /* the length exponent isn't in 7 to 20: progress->needed, selected->needed or detail->first has it; */
   MSEED_LENGTH = 20,
   /* blockette 1000 lies outside of the record whose length it gives; */
   MSEED_OUTSIDE = 21,
@@ -68,7 +68,7 @@ enum mseed_code
   /* The samples of a record can't be read: it has a blockette 100, whose rate, a float, isn't read, so that its header
    * alone doesn't say its rate; */
   MSEED_BLOCKETTE_100 = 32,
-  /* an encoding that isn't read: its number is the encoding; */
+  /* an encoding that isn't read: detail->first has it; */
   MSEED_ENCODING = 33,
   /* Steim frames in little-endian words; */
   MSEED_LITTLE_STEIM = 34,
@@ -104,7 +104,7 @@ enum mseed_code
   MSEED_BAD_RATE = 67,
   /* its start isn't in the years 1800 to 2199; */
   MSEED_BAD_START = 68,
-  /* its leap second is of no kind, or after none of the samples. */
+  /* its leap is over 2; or it is 1 or 2, and leap_after isn't 1 to the number of samples. */
   MSEED_BAD_LEAP = 69,
 
   /* A request for records is refused: an end of the window isn't in the years 1800 to 2199; */
@@ -143,7 +143,7 @@ typedef struct mseed_row
   int64_t start;      /* the time of its first sample in microseconds since 1970-01-01T00:00:00; 0 where time isn't 0 */
   uint32_t num;       /* its rate: num samples .. */
   uint32_t den;       /* .. in den seconds, not reduced; both 0 where it has none */
-  uint32_t code;      /* MSEED_OK, or why its samples can't be read: then none were */
+  uint32_t code;      /* MSEED_OK, also where it has no samples; or why its samples can't be read: then none were */
   int16_t factor;     /* the factor and the multiplier of its rate; both 0 where it has none */
   int16_t multiplier;
   uint8_t encoding;   /* how its samples are encoded */
@@ -186,7 +186,8 @@ typedef struct mseed_heading
   int16_t multiplier;  /* .. multiplied by this where positive, divided by it where negative */
   uint8_t encoding;    /* enum mseed_encoding */
   uint8_t leap;        /* 0: no leap second, 1: one that was inserted, 2: one that was left out */
-  uint8_t key[12];     /* network (2 bytes), station (5), location (2) and channel (3), filled up with spaces */
+  uint8_t key[12];     /* network (2 bytes), station (5), location (2) and channel (3), filled up with spaces;
+                        * written as they are, whatever bytes they are */
 } mseed_heading;
 
 /* What packing came to. */
@@ -234,19 +235,19 @@ uint32_t mseed_part (const uint8_t *archive, size_t size, uint8_t *text, size_t 
 /* The rows of the records from an offset on, without their samples: as many as there are places for.
  *
  * Returns MSEED_OK once all bytes are read, else why it stopped: MSEED_NO_ROW, MSEED_TRUNCATED or one of
- * MSEED_NOT_DATA to MSEED_VERSION_3. To go on, call again with progress->offset as the offset. Each row's code is
- * MSEED_OK, since no samples were read; its first counts the samples of the rows before it. Rows after those that were
- * written stay as they were. To go on after bytes that begin no record, as the tools do, call with one row at each
- * further multiple of 64 bytes, until one is written.
+ * MSEED_NOT_DATA to MSEED_VERSION_3. An offset past the end is the end. To go on, call again with progress->offset as
+ * the offset. Each row's code is MSEED_OK, since no samples were read; its first counts the samples of the rows before
+ * it. Rows after those that were written stay as they were. To go on after bytes that begin no record, as the tools do,
+ * call with one row at each further multiple of 64 bytes, until one is written.
  */
 uint32_t mseed_rows (const uint8_t *archive, size_t size, size_t offset, mseed_row *rows, size_t nrows,
                      mseed_progress *progress);
 
 /* The rows of the records from an offset on, and their samples, one record's after another's.
  *
- * Returns what mseed_rows does, or MSEED_NO_ROOM. A record whose samples can't be read has its row, with the code of
- * the reason, and adds no samples: reading goes on after it, though there have to be places for as many as its header
- * says. Places after progress->filled may have been written to.
+ * Returns what mseed_rows does, or MSEED_NO_ROOM. An offset past the end is the end. A record whose samples can't be
+ * read has its row, with the code of the reason, and adds no samples: reading goes on after it, though there have to be
+ * places for as many as its header says. Places after progress->filled may have been written to.
  */
 uint32_t mseed_read (const uint8_t *archive, size_t size, size_t offset, mseed_row *rows, size_t nrows,
                      int32_t *samples, size_t room, mseed_progress *progress);
@@ -273,8 +274,9 @@ uint32_t mseed_pack (const mseed_heading *heading, const int32_t *samples, size_
  * it. What lies after them stays as it was.
  *
  * channels are patterns of channels, with commas between them, each of four fields with underscores between them:
- * "XX_STA__BH?". A text of length 0 asks for every channel. A record is asked for where it is of such a channel and
- * stands in the window: it doesn't end before the window's beginning, and begins before the window's end.
+ * "XX_STA__BH?". * stands for any characters, none too, ? for one; -- as location is the empty one too. A text of
+ * length 0 asks for every channel. A record is asked for where it is of such a channel and stands in the window: it
+ * doesn't end before the window's beginning, and begins before the window's end.
  *
  * Returns MSEED_OK once all bytes are read, else why it stopped: MSEED_TRUNCATED or one of MSEED_NOT_DATA to
  * MSEED_VERSION_3; or MSEED_BAD_TIME, MSEED_BAD_PATTERNS or MSEED_BAD_WINDOW, the first that applies: then nothing is

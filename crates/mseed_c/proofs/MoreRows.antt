@@ -57,7 +57,10 @@ own_row bytes row v n filled code new at describes first c s = record {
   at = at;
   describes = describes;
   samples = λ zero. own_samples row v n filled new first describes.samples_are (s.whole (sym c ∙ zero));
-  fault = λ some. let f = (s.fault (λ zero. some (c ∙ zero))).1 in (f.0, (f.1.0, c ∙ f.1.1));
+  fault = λ coded.
+      let why = s.fault (λ zero. coded (c ∙ zero)) in
+      let some : 0 < row.samples = subst (λ (k : ℕ). 0 < k) (sym describes.samples_are) why.1 in
+      (some, (why.2.0, (why.2.1.0, c ∙ why.2.1.1)));
 }
 
 filled_with : (code samples n : ℕ) → (code ≡ 0) ⊎ (code ≡ 0 → ⊥) → (code ≡ 0 → n ≡ samples) → (code ≢ 0 → n ≡ 0)

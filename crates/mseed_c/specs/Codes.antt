@@ -1,6 +1,6 @@
 -- The codes that calls return, and the numbers that belong to them. 0 is done, 1 and 2 are the statuses of an audit, 3
 -- is refused memory; 80 to 82, of a selection that can't be asked for, are in `Asked`.
-use Rattle.std.specs.Prelude.{ℕ, pos, Result, Ok, Err}
+use Rattle.std.specs.Prelude.{⊤, ℕ, pos, Result, Ok, Err}
 use Rattle.mseed_record.specs.declared.fault.FrameFault.{FrameFault}
 use Rattle.mseed_record.specs.declared.fault.FrameFault.TheVariants.{NotData, Order, Chain, No1000, Length, Outside}
 use Rattle.mseed_record.specs.declared.fault.FrameFault.TheVariants.{Version3}
@@ -63,6 +63,11 @@ code_of_refusal (BadOption Sequence) = 66
 code_of_refusal Rate = 67
 code_of_refusal Start = 68
 code_of_refusal Leap = 69
+
+-- the reason is one of the series, and not of a sink
+abbrev pub IsOfSeries : PackFault → Type 0
+IsOfSeries (Write taken) = ⊥
+IsOfSeries fault = ⊤
 
 -- of a series that can't be packed
 abbrev pub code_of_misfit : PackFault → ℕ

@@ -14,7 +14,7 @@ pub record IsFirst (bytes : List ℕ) (v : View) : Type 0 where
   pub view : IsView v
   pub prefix : v.bytes ≡ take (length v.bytes) bytes
 
--- why no record is read from the bytes: none begins them, or so many are needed before that is known
+-- why no record is read from the bytes: none begins them, or more are needed before that is known, and how many
 abbrev pub IsStopAt : List ℕ → Stop → Type 0
 IsStopAt bytes Rows = ⊥
 IsStopAt bytes (Room places) = ⊥

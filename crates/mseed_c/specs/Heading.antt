@@ -38,7 +38,7 @@ abbrev pub kind_of : LeapStep → ℕ
 kind_of Plus = 1
 kind_of Minus = 2
 
--- the leap seconds of so many samples: none, or one after some of them
+-- the leap seconds of `samples` samples: none, or one after some of them
 pub data HasLeap (h : Heading) (samples : ℕ) : List (ℕ × LeapStep) → Type 0 where
   without_leap : h.leap ≡ 0 → HasLeap h samples []
   with_leap : (step : LeapStep) → h.leap ≡ kind_of step → AreSteps samples ((h.leap_after, step) ∷ [])

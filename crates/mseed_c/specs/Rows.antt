@@ -62,19 +62,20 @@ pub record Describes (row : Row) (v : View) : Type 0 where
   pub leap_is : row.leap ≡ leap_number (leap_of v.bytes)
   pub key_is : row.key ≡ key_at v.bytes
 
--- the samples of a row, among the first so many places
+-- the samples of a row, among the first `filled` places
 pub record HasSamples (row : Row) (v : View) (filled : ℕ) (out : List ℤ) : Type 0 where
   pub within : row.first + row.samples ≤ filled
   pub whole : 0 < row.samples → IsWhole v (drop row.first (take (row.first + row.samples) out))
 
 -- The row is that of the record that begins at its offset; its samples are the record's one reading, or the code says
--- why it has none.
+-- why it has none. That of a record without samples is 0.
 pub record IsRow (bytes : List ℕ) (filled : ℕ) (out : List ℤ) (row : Row) : Type 0 where
   pub view : View
   pub at : IsFirst (drop row.offset bytes) view
   pub describes : Describes row view
   pub samples : row.code ≡ 0 → HasSamples row view filled out
-  pub fault : row.code ≢ 0 → (f : ReadFault) × (IsFault view f × (row.code ≡ code_of_read f))
+  pub fault : row.code ≢ 0
+      → (0 < row.samples) × ((f : ReadFault) × (IsFault view f × (row.code ≡ code_of_read f)))
 
 -- how many samples a row filled in
 abbrev pub filled_by : Row → ℕ
@@ -88,8 +89,8 @@ ArePlaced offset place (row ∷ rows) next filled =
     (row.offset ≡ offset) × (row.first ≡ place)
     × ArePlaced (offset + row.length) (place + filled_by row) rows next filled
 
--- So many rows were written of the records from an offset on, and of each row this is so, where so many samples are
--- counted. Rows after them stay.
+-- The rows that are counted were written of the records from an offset on, and of each row this is so, by the number of
+-- samples that are counted. Rows after them stay.
 pub record IsWalk (Is : ℕ → Row → Type 0) (bytes : List ℕ) (offset : ℕ) (old rows : List Row) (p : Progress)
     : Type 0 where
   pub counted : p.rows ≤ length rows
@@ -121,8 +122,8 @@ pub record LacksPlaces (bytes : List ℕ) (room : ℕ) (p : Progress) (places : 
   pub count : places ≡ count_of view
   pub fewer : room < p.filled + places
 
--- Why no row more was written, where there are so many places for rows, and so many for samples: there is no place for
--- a row, or else what begins the bytes from the offset on says why.
+-- Why no row more was written, where there are `rows` places for rows, and `room` for samples: there is no place for a
+-- row, or else what begins the bytes from the offset on says why.
 abbrev pub EndsWalk : Stop → List ℕ → ℕ → ℕ → Progress → Type 0
 EndsWalk Rows bytes rows room p = p.rows ≡ rows
 EndsWalk (Room places) bytes rows room p = (p.rows < rows) × LacksPlaces bytes room p places

@@ -6,11 +6,11 @@ ghost use Rattle.mseed_c.specs.Audited.{IsShown, SaysAudit, SaysEach, SaysPart, 
 ghost use Rattle.mseed_c.specs.Room.{overwritten};
 ghost use Rattle.mseed_c.specs.private.Reported.{IsReported, says_of};
 
-use crate::codes::MEMORY;
+use crate::codes::{BROKEN, FAULT, NO_MEMORY, OK};
 use crate::lent::Lent;
-use crate::room::overwrite;
 use mseed_audit::{Summary, audit, audit_each};
 use mseed_join::audit_part;
+use mseed_pack::overwrite;
 use mseed_stream::{Counted, Sink, Source};
 use std::alloc::Global;
 
@@ -51,8 +51,8 @@ pub extern "C" fn mseed_audit(
     room: &mut [u8],
     totals: &mut Totals,
 ) -> u32
-    ensures shown { result ≢ MEMORY → IsShown SaysAudit bytes.now room.old room.new totals.new result }
-    ensures refused { result ≡ MEMORY → Stays room.old room.new totals.old totals.new }
+    ensures shown { result ≢ NO_MEMORY → IsShown SaysAudit bytes.now room.old room.new totals.new result }
+    ensures refused { result ≡ NO_MEMORY → Stays room.old room.new totals.old totals.new }
 {
     show_text(Text::Audit, alloc, bytes, room, totals)
 }
@@ -69,8 +69,8 @@ pub extern "C" fn mseed_audit_each(
     room: &mut [u8],
     totals: &mut Totals,
 ) -> u32
-    ensures shown { result ≢ MEMORY → IsShown SaysEach bytes.now room.old room.new totals.new result }
-    ensures refused { result ≡ MEMORY → Stays room.old room.new totals.old totals.new }
+    ensures shown { result ≢ NO_MEMORY → IsShown SaysEach bytes.now room.old room.new totals.new result }
+    ensures refused { result ≡ NO_MEMORY → Stays room.old room.new totals.old totals.new }
 {
     show_text(Text::Each, alloc, bytes, room, totals)
 }
@@ -87,8 +87,8 @@ pub extern "C" fn mseed_part(
     room: &mut [u8],
     totals: &mut Totals,
 ) -> u32
-    ensures shown { result ≢ MEMORY → IsShown SaysPart bytes.now room.old room.new totals.new result }
-    ensures refused { result ≡ MEMORY → Stays room.old room.new totals.old totals.new }
+    ensures shown { result ≢ NO_MEMORY → IsShown SaysPart bytes.now room.old room.new totals.new result }
+    ensures refused { result ≡ NO_MEMORY → Stays room.old room.new totals.old totals.new }
 {
     show_text(Text::Part, alloc, bytes, room, totals)
 }
@@ -96,14 +96,14 @@ pub extern "C" fn mseed_part(
 /// Writes a text about an archive that lies in memory into a room, and its counts into `totals`. Returns the status, or
 /// 3 where memory was refused: then nothing is written.
 fn show_text(text: Text, alloc: Global, bytes: &[u8], room: &mut [u8], totals: &mut Totals) -> u32
-    ensures shown { result ≢ MEMORY → IsShown (says_of text) bytes.now room.old room.new totals.new result }
-    ensures refused { result ≡ MEMORY → Stays room.old room.new totals.old totals.new }
+    ensures shown { result ≢ NO_MEMORY → IsShown (says_of text) bytes.now room.old room.new totals.new result }
+    ensures refused { result ≡ NO_MEMORY → Stays room.old room.new totals.old totals.new }
 {
     let mut source = Lent::new(bytes);
     let mut sink = Counted::new(Vec::new(alloc));
     match write_text(text, alloc, &mut source, &mut sink) {
         Some(summary) => show(sink.get_ref(), &summary, room, totals),
-        None => MEMORY,
+        None => NO_MEMORY,
     }
 }
 
@@ -158,10 +158,10 @@ fn status_of(summary: &Summary) -> u32
     ensures { result ≡ status_of summary.now }
 {
     if summary.fault {
-        2
+        FAULT
     } else if summary.broken > 0 {
-        1
+        BROKEN
     } else {
-        0
+        OK
     }
 }

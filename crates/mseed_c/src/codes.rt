@@ -2,23 +2,129 @@
 ghost use Rattle.std.specs.Prelude.{◌≡◌};
 ghost use Rattle.mseed_c.specs.Codes.{code_of, code_of_frame, code_of_read, code_of_refusal};
 ghost use Rattle.mseed_c.specs.Codes.{code_of_misfit, code_of_stop, detail_of, index_of, detail_of_read};
-ghost use Rattle.mseed_c.specs.Codes.{number, needed_by};
+ghost use Rattle.mseed_c.specs.Codes.{number, needed_by, IsOfSeries};
 
 use mseed_pack::{BadOption, PackFault};
 use mseed_record::FrameFault;
 use mseed_steim::ReadFault;
 
-/// The code of memory that was refused.
-pub(crate) const MEMORY: u32 = 3;
+/// Done; of an audit: each channel is continuous.
+pub(crate) const OK: u32 = 0;
+
+/// Of an audit: done, and some channel is broken.
+pub(crate) const BROKEN: u32 = 1;
+
+/// Of an audit: done, and the archive doesn't end where a record ends.
+pub(crate) const FAULT: u32 = 2;
+
+/// Memory was refused.
+pub(crate) const NO_MEMORY: u32 = 3;
+
+/// No row is left to be written to.
+const NO_ROW: u32 = 4;
+
+/// There are fewer places than samples.
+const NO_ROOM: u32 = 5;
+
+/// More bytes are needed before it is known whether they begin a record.
+const TRUNCATED: u32 = 6;
+
+/// No record begins there: these aren't the first bytes of a data record.
+const NOT_DATA: u32 = 16;
+
+/// The year and the day of its start can be read in neither byte order.
+const ORDER: u32 = 17;
+
+/// A blockette begins where none can.
+const CHAIN: u32 = 18;
+
+/// No blockette 1000 gives the record's length.
+const NO_1000: u32 = 19;
+
+/// The exponent of the length isn't in 7 to 20.
+const LENGTH: u32 = 20;
+
+/// Blockette 1000 lies outside of the record whose length it gives.
+const OUTSIDE: u32 = 21;
+
+/// It is miniSEED 3.
+const VERSION_3: u32 = 22;
+
+/// The samples of a record can't be read: it has a blockette 100.
+const BLOCKETTE_100: u32 = 32;
+
+/// The encoding isn't one that is read.
+const ENCODING: u32 = 33;
+
+/// Its Steim frames are of little-endian words.
+const LITTLE_STEIM: u32 = 34;
+
+/// Its data begin within the header or after the record's end.
+const DATA_OFFSET: u32 = 35;
+
+/// It has fewer differences or integers than samples.
+const SHORT: u32 = 36;
+
+/// One of its words means nothing.
+const BAD_WORD: u32 = 37;
+
+/// A sample leaves 32 bits.
+const OVERFLOW: u32 = 38;
+
+/// The last sample isn't the record's constant for it.
+const LAST_DIFFERS: u32 = 39;
+
+/// A series can't be packed: it has no samples.
+const EMPTY: u32 = 48;
+
+/// It has more than 500,000 samples a second.
+const RATE_TOO_HIGH: u32 = 49;
+
+/// A sample's time lies in no year from 1900 to 2100.
+const TIME_OUT_OF_RANGE: u32 = 50;
+
+/// The encoding doesn't hold a sample.
+const SAMPLE_TOO_LARGE: u32 = 51;
+
+/// The encoding doesn't hold the difference of a sample from the one before it.
+const DIFFERENCE_TOO_LARGE: u32 = 52;
+
+/// A heading is refused: no record is written with its length.
+const BAD_LENGTH: u32 = 64;
+
+/// No record is written with its encoding.
+const BAD_ENCODING: u32 = 65;
+
+/// Its sequence number is above 999,999.
+const BAD_SEQUENCE: u32 = 66;
+
+/// Its factor or multiplier is 0.
+const BAD_RATE: u32 = 67;
+
+/// Its start isn't in the years 1800 to 2199.
+const BAD_START: u32 = 68;
+
+/// Its leap second is of no kind, or doesn't stand after 1 to all of the samples.
+const BAD_LEAP: u32 = 69;
+
+/// A request for records is refused: an end of the window isn't in the years 1800 to 2199.
+pub(crate) const BAD_TIME: u32 = 80;
+
+/// The text isn't patterns of channels.
+pub(crate) const BAD_PATTERNS: u32 = 81;
+
+/// The window's end isn't after its beginning.
+pub(crate) const BAD_WINDOW: u32 = 82;
 
 /// Why no further record is read.
 #[derive(Clone, Copy)]
 pub enum Stop {
     /// No row is left to be written to.
     Rows,
-    /// The next record has so many samples, and there are fewer places.
+    /// The next record has this number of samples, and there are fewer places.
     Room(usize),
-    /// So many bytes are needed, from the next record's first one on, before it is known whether they begin a record.
+    /// This number of bytes is needed, from the next record's first one on, before it is known whether they begin a
+    /// record.
     Short(usize),
     /// The next bytes begin no record, whatever follows them.
     Not(FrameFault),
@@ -42,7 +148,7 @@ pub enum Refusal {
     Rate,
     /// The start isn't in the years 1800 to 2199.
     Start,
-    /// The leap second is of no kind, or stands after none of the samples.
+    /// The leap second is of no kind, or doesn't stand after 1 to all of the samples.
     Leap,
 }
 
@@ -65,7 +171,7 @@ pub(crate) fn code_of(answer: &Result<usize, SampleFault>) -> u32
     ensures { result ≡ code_of answer.now }
 {
     match answer {
-        Ok(_) => 0,
+        Ok(_) => OK,
         Err(SampleFault::Read(fault)) => code_of_read(*fault),
         Err(SampleFault::Stop(stop)) => code_of_stop(*stop),
     }
@@ -87,9 +193,9 @@ pub(crate) fn code_of_stop(stop: Stop) -> u32
     ensures { result ≡ code_of_stop stop }
 {
     match stop {
-        Stop::Rows => 4,
-        Stop::Room(_) => 5,
-        Stop::Short(_) => 6,
+        Stop::Rows => NO_ROW,
+        Stop::Room(_) => NO_ROOM,
+        Stop::Short(_) => TRUNCATED,
         Stop::Not(fault) => code_of_frame(fault),
     }
 }
@@ -112,13 +218,13 @@ fn code_of_frame(fault: FrameFault) -> u32
     ensures { result ≡ code_of_frame fault }
 {
     match fault {
-        FrameFault::NotData => 16,
-        FrameFault::Order => 17,
-        FrameFault::Chain => 18,
-        FrameFault::No1000 => 19,
-        FrameFault::Length(_) => 20,
-        FrameFault::Outside => 21,
-        FrameFault::Version3 => 22,
+        FrameFault::NotData => NOT_DATA,
+        FrameFault::Order => ORDER,
+        FrameFault::Chain => CHAIN,
+        FrameFault::No1000 => NO_1000,
+        FrameFault::Length(_) => LENGTH,
+        FrameFault::Outside => OUTSIDE,
+        FrameFault::Version3 => VERSION_3,
     }
 }
 
@@ -127,15 +233,15 @@ pub(crate) fn code_of_read(fault: ReadFault) -> u32
     ensures { result ≡ code_of_read fault }
 {
     match fault {
-        ReadFault::Memory => MEMORY,
-        ReadFault::Blockette100 => 32,
-        ReadFault::Encoding(_) => 33,
-        ReadFault::LittleSteim => 34,
-        ReadFault::DataOffset => 35,
-        ReadFault::Short(_) => 36,
-        ReadFault::BadWord(_, _) => 37,
-        ReadFault::Overflow(_) => 38,
-        ReadFault::LastDiffers(_, _) => 39,
+        ReadFault::Memory => NO_MEMORY,
+        ReadFault::Blockette100 => BLOCKETTE_100,
+        ReadFault::Encoding(_) => ENCODING,
+        ReadFault::LittleSteim => LITTLE_STEIM,
+        ReadFault::DataOffset => DATA_OFFSET,
+        ReadFault::Short(_) => SHORT,
+        ReadFault::BadWord(_, _) => BAD_WORD,
+        ReadFault::Overflow(_) => OVERFLOW,
+        ReadFault::LastDiffers(_, _) => LAST_DIFFERS,
     }
 }
 
@@ -177,26 +283,27 @@ pub(crate) fn code_of_refusal(refusal: Refusal) -> u32
     ensures { result ≡ code_of_refusal refusal }
 {
     match refusal {
-        Refusal::Option(BadOption::Exponent) => 64,
-        Refusal::Option(BadOption::Encoding) => 65,
-        Refusal::Option(BadOption::Sequence) => 66,
-        Refusal::Rate => 67,
-        Refusal::Start => 68,
-        Refusal::Leap => 69,
+        Refusal::Option(BadOption::Exponent) => BAD_LENGTH,
+        Refusal::Option(BadOption::Encoding) => BAD_ENCODING,
+        Refusal::Option(BadOption::Sequence) => BAD_SEQUENCE,
+        Refusal::Rate => BAD_RATE,
+        Refusal::Start => BAD_START,
+        Refusal::Leap => BAD_LEAP,
     }
 }
 
 /// Returns the code of why a series can't be packed, 48 to 52. `Write` doesn't come, since there is no sink.
 pub(crate) fn code_of_misfit(fault: &PackFault) -> u32
+    requires { IsOfSeries fault.now }
     ensures { result ≡ code_of_misfit fault.now }
 {
     match fault {
-        PackFault::Write(_) => MEMORY,
-        PackFault::Empty => 48,
-        PackFault::RateTooHigh(_) => 49,
-        PackFault::TimeOutOfRange { .. } => 50,
-        PackFault::SampleTooLarge { .. } => 51,
-        PackFault::DifferenceTooLarge { .. } => 52,
+        PackFault::Write(_) => unreachable!(),
+        PackFault::Empty => EMPTY,
+        PackFault::RateTooHigh(_) => RATE_TOO_HIGH,
+        PackFault::TimeOutOfRange { .. } => TIME_OUT_OF_RANGE,
+        PackFault::SampleTooLarge { .. } => SAMPLE_TOO_LARGE,
+        PackFault::DifferenceTooLarge { .. } => DIFFERENCE_TOO_LARGE,
     }
 }
 

@@ -7,7 +7,7 @@ ghost use Rattle.mseed_c.specs.Rows.{EndsWalk, IsEnd, IsWalk};
 ghost use Rattle.mseed_c.specs.private.Going.{GoesOn, HasNoRoom, TakesOn};
 ghost use Rattle.mseed_c.specs.declared.row.Row.{Row};
 
-use crate::codes::{Stop, code_of_stop, needed_by};
+use crate::codes::{OK, Stop, code_of_stop, needed_by};
 use crate::decoding::view_at;
 use crate::row::{Row, row_of};
 use mseed_record::RecordView;
@@ -29,7 +29,7 @@ pub struct Progress {
 
 /// What is done with the samples of each record: they are read and written, or only counted.
 pub(crate) trait Places {
-    // What holds of a row of some bytes, where so many samples are counted and `out` holds these.
+    // What holds of a row of some bytes, by the number of samples that are counted, and those that `out` holds.
     ghost is_row: { List ℕ → ℕ → List ℤ → Row → Type 0 };
 
     // How many samples can be counted, where `out` is so long.
@@ -142,6 +142,6 @@ pub(crate) fn go_through<P: Places>(
             progress.needed = needed_by(stop);
             code_of_stop(stop)
         }
-        None => 0,
+        None => OK,
     }
 }

@@ -57,8 +57,8 @@ pub(crate) struct Parts {
     pub(crate) step: Option<(u64, LeapStep)>,
 }
 
-/// Returns the leap second of a heading, if it has one, with how many of so many samples stand before it; `None` where
-/// it is of no kind, or stands after none of the samples.
+/// Returns the leap second of a heading, if it has one, with how many of the samples stand before it; `None` where it
+/// is of no kind, or doesn't stand after 1 to all of the samples.
 fn leap_of(heading: &Heading, samples: usize) -> Option<Option<(u64, LeapStep)>>
     ensures some { IfSome result (λ step. HasLeap heading.now samples (option_to_list step)) }
     ensures none { IfNone result ((steps : List (ℕ × LeapStep)) → HasLeap heading.now samples steps → ⊥) }
@@ -78,7 +78,7 @@ fn leap_of(heading: &Heading, samples: usize) -> Option<Option<(u64, LeapStep)>>
     Some(Some((after, step)))
 }
 
-/// Returns the values that a heading gives for so many samples.
+/// Returns the values that a heading gives for this number of samples.
 ///
 /// # Errors
 ///

@@ -2,6 +2,7 @@
 ghost use Rattle.std.specs.Prelude.{◌^◌, ◌-◌, length};
 ghost use Rattle.mseed_c.specs.Rows.{IsEnd, IsHead, IsHeads};
 
+use crate::codes::OK;
 use crate::going::{Places, Progress, go_through};
 use crate::row::Row;
 use mseed_record::RecordView;
@@ -18,7 +19,7 @@ impl Places for Unread {
     fn take(view: &RecordView<'_>, out: &mut [i32], filled: usize) -> Result<(usize, u32), usize> {
         let samples = usize::from(view.samples());
         match filled.checked_add(samples) {
-            Some(counted) => Ok((counted, 0)),
+            Some(counted) => Ok((counted, OK)),
             None => Err(samples),
         }
     }

@@ -15,7 +15,6 @@ mod heads;
 mod lent;
 mod packing;
 mod reading;
-mod room;
 mod row;
 mod selecting;
 

@@ -5,7 +5,7 @@ ghost use Rattle.mseed_pack.specs.Traces.{trace_of};
 ghost use Rattle.mseed_c.specs.Packed.{IsPackedInto, IsPackOutcome};
 ghost use Rattle.mseed_c.specs.private.Parts.{AreParts};
 
-use crate::codes::{code_of_misfit, code_of_refusal, index_of};
+use crate::codes::{OK, code_of_misfit, code_of_refusal, index_of};
 use crate::heading::{Heading, Parts, parts_of};
 use mseed_pack::{Options, SeriesView, fit_view, pack_into};
 use mseed_record::Codes;
@@ -82,5 +82,5 @@ fn pack_series(
     }
     let records = pack_into(series, options, room);
     *reported = Packed { records, index: 0 };
-    0
+    OK
 }

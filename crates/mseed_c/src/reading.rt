@@ -4,7 +4,7 @@ ghost use Rattle.mseed_record.specs.Viewing.{view_of};
 ghost use Rattle.mseed_c.specs.Rows.{IsEnd, IsRead, IsRow};
 ghost use Rattle.mseed_c.specs.private.Filled.{AreSamples, LacksRoom};
 
-use crate::codes::{SampleFault, Stop, code_of_read};
+use crate::codes::{OK, SampleFault, Stop, code_of_read};
 use crate::decoding::fill;
 use crate::going::{Places, Progress, go_through};
 use crate::row::Row;
@@ -42,7 +42,7 @@ fn fill_row(view: &RecordView<'_>, out: &mut [i32], index: usize) -> Result<(usi
     ensures full { IfErr result (λ places. LacksRoom (view_of view.now) (drop index out.new) places) }
 {
     match fill(view, &mut out[index..]) {
-        Ok(samples) => Ok((samples, 0)),
+        Ok(samples) => Ok((samples, OK)),
         Err(SampleFault::Read(fault)) => Ok((0, code_of_read(fault))),
         Err(SampleFault::Stop(Stop::Room(places))) => Err(places),
         Err(SampleFault::Stop(_)) => unreachable!(),

@@ -23,11 +23,11 @@ pub struct Row {
     pub samples: usize,
     /// The instant of its first sample, in microseconds from 1970-01-01T00:00:00; 0 where `time` isn't 0.
     pub start: i64,
-    /// Its sample rate is so many samples ..
+    /// Its sample rate: a number of samples ..
     pub num: u32,
-    /// .. in so many seconds, not reduced; both are 0 where it has none.
+    /// .. in this number of seconds, not reduced; both are 0 where it has none.
     pub den: u32,
-    /// 0, or the code of why its samples can't be read, 32 to 39: then none were.
+    /// 0, also where it has no samples; or the code of why its samples can't be read, 32 to 39: then none were.
     pub code: u32,
     /// The factor of its rate; 0 where it has none (SEED Reference Manual 2.4, chapter 8, field 10).
     pub factor: i16,

@@ -8,20 +8,11 @@ ghost use Rattle.mseed_c.specs.Decoded.{IsStopAt};
 ghost use Rattle.mseed_c.specs.Room.{overwritten};
 ghost use Rattle.mseed_c.specs.private.Copied.{IsSmall, IsSoFar, added, counted};
 
-use crate::codes::{Stop, code_of_stop, needed_by};
+use crate::codes::{BAD_PATTERNS, BAD_TIME, BAD_WINDOW, OK, Stop, code_of_stop, needed_by};
 use crate::decoding::view_at;
-use crate::room::overwrite;
+use mseed_pack::overwrite;
 use mseed_select::{Answer, Patterns, Selector};
 use mseed_time::Micros;
-
-/// The code of a window with an end that isn't in the years 1800 to 2199.
-const BAD_TIME: u32 = 80;
-
-/// The code of a text that isn't patterns of channels.
-const BAD_PATTERNS: u32 = 81;
-
-/// The code of a window whose end isn't after its beginning.
-const BAD_WINDOW: u32 = 82;
 
 /// A window of time, from an instant up to another, which isn't part of it.
 #[repr(C)]
@@ -125,7 +116,7 @@ fn select_all(selector: &Selector, bytes: &[u8], room: &mut [u8], reported: &mut
             return code_of_stop(stop);
         }
     }
-    0
+    OK
 }
 
 /// Writes the next record where it is asked for, and goes past it.

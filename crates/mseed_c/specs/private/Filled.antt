@@ -9,7 +9,8 @@ use Rattle.mseed_c.specs.Codes.{code_of_read}
 pub record AreSamples (v : View) (out : List ℤ) (n code : ℕ) : Type 0 where
   pub fits : n ≤ length out
   pub whole : code ≡ 0 → (n ≡ count_of v) × (0 < n → IsWhole v (take n out))
-  pub fault : code ≢ 0 → (n ≡ 0) × ((f : ReadFault) × (IsFault v f × (code ≡ code_of_read f)))
+  pub fault : code ≢ 0
+      → (n ≡ 0) × (0 < count_of v) × ((f : ReadFault) × (IsFault v f × (code ≡ code_of_read f)))
 
 -- there are fewer places than the record has samples
 pub record LacksRoom (v : View) (out : List ℤ) (places : ℕ) : Type 0 where
