@@ -6,7 +6,7 @@ use crate::failure::Failure;
 use crate::noise::Noise;
 use crate::shape::station_of;
 use mseed_audit::{Channel, Finding, Findings, Head, Tail, Why};
-use mseed_join::{Form, HEADER, join, push_channel_line, push_counts_line};
+use mseed_join::{FIRST_LINE, Form, join, push_channel_line, push_counts_line};
 use mseed_record::{Codes, Leap};
 use mseed_stream::Counted;
 use mseed_time::{Micros, Ratio};
@@ -44,7 +44,7 @@ fn parts_of(
     let mut text = Vec::new(alloc);
     let mut lines = Vec::new(alloc);
     for day in 0..days.min(1_000) {
-        text.extend_from_slice(HEADER)?;
+        text.extend_from_slice(FIRST_LINE)?;
         for number in 0..channels {
             lines.push(text.len())?;
             push_line(&mut text, noise, number, day as i64)?;
