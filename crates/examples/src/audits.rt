@@ -151,8 +151,8 @@ pub fn with_leap_second(
 
 /// How many records a slice holds, and how many bytes they have.
 pub fn count_records(alloc: Global, bytes: &[u8]) -> Result<(u64, u64), Memory> {
-    let (audit, _, size) = gather(alloc, &mut Counted::new(bytes))?;
-    Ok((audit.added(), size))
+    let gathered = gather(alloc, &mut Counted::new(bytes))?;
+    Ok((gathered.audit.added(), gathered.bytes))
 }
 
 /// The lines of a slice's records with a finding.
@@ -185,6 +185,11 @@ pub fn break_between(one: &Channel, next: &Channel) -> Option<Why> {
     }
 }
 
+/// Whether one record of a channel has a finding, and no other.
+pub fn breaks_once(channel: &Channel) -> bool {
+    channel.findings.count() == 1
+}
+
 /// The text of a finding.
 pub fn reason_text(alloc: Global, why: &Why) -> Result<Vec<u8>, AllocError>
     ensures { IfOk result (λ text. text.items ≡ why_text why.now) }
@@ -196,7 +201,7 @@ pub fn reason_text(alloc: Global, why: &Why) -> Result<Vec<u8>, AllocError>
     Ok(text)
 }
 
-/// The audit's text of an archive of one channel, of so many records, that ends without a fault.
+/// The audit's text of an archive of one channel, of `records` records, that ends without a fault.
 pub fn text_of_one(
     alloc: Global,
     codes: &Codes,

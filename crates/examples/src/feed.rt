@@ -7,7 +7,7 @@ use mseed_stream::{Duplex, Sink};
 use slink_feed::{
     Bytes, Client, Ending, Event, Feed, FeedFault, ForeignRecord, InputFault, LinkFault, Mode,
     Reporter, Ring, RingFault, Room, Sent, Session, Turn, Unsent, fetch_turn, fetch_turn_in,
-    fetch_turn_reporting, serve_turn,
+    serve_turn,
 };
 use slink_wire::{Packet, Place, Reply};
 use std::alloc::Global;
@@ -120,11 +120,6 @@ pub fn bytes_without_a_record(unsent: Unsent) -> &'static [u8] {
     unsent.bytes()
 }
 
-/// Whether it is in vain to call a session for packets now.
-pub fn has_nothing_to_send(session: &Session, feed: &Feed) -> bool {
-    session.is_waiting(feed)
-}
-
 /// Whether a record of the first place is due to a client.
 pub fn has_record_due(session: &Session, feed: &Feed) -> bool
     requires { 0 < length feed.now }
@@ -216,14 +211,15 @@ pub fn fetch_some<S: Duplex, W: Sink, E: Sink>(
     link: &mut S,
     output: &mut W,
     errors: &mut E,
+    room: &mut Room,
 ) -> Result<bool, LinkFault> {
     let mut reporter = Reporter::new(client, true);
     reporter.begin();
-    fetch_turn_reporting(client, link, output, errors, &mut reporter)?;
+    fetch_turn_in(client, link, output, errors, &mut reporter, room)?;
     Ok(reporter.has_received())
 }
 
-/// Fetches over a link for so many turns, in one room; whether a further turn is to be taken.
+/// Fetches over a link for `turns` turns, in one room; whether a further turn is to be taken.
 pub fn fetch_turns<S: Duplex, W: Sink, E: Sink>(
     client: &mut Client,
     link: &mut S,

@@ -8,8 +8,9 @@ use mseed_feed::{
     Device, Listen, TcpListening, fetch, plan_fetch, plan_serve, serve, serve_live, serve_live_at,
 };
 use mseed_stream::{Buffered, Sink, Source};
-use mseed_words::{Fetching, LiveServing, Serving};
+use mseed_words::{Endpoint, Fetching, LiveServing, Serving};
 use slink_links::LivePlan;
+use slink_wire::Address;
 use std::alloc::Global;
 use std::io;
 use std::io::{BufReader, Read};
@@ -33,18 +34,19 @@ pub fn connections_planned<R: Source, E: Sink>(
     }
 }
 
-/// Serves what a reader gives, and answers the exit status.
-pub fn serve_reader<N: Net + Clock, T: Read + Drop, E: Sink>(
-    host: &N,
+/// Serves what a reader gives, where one can listen, and answers the exit status.
+pub fn serve_reader<L: Listen, T: Read + Drop, E: Sink>(
     alloc: Global,
     serving: &Serving,
     reader: T,
+    listening: &mut L,
     errors: &mut E,
 ) -> io::Result<u8>
-    requires { CanServe serving.now }
+    requires new { L.came listening.old ≡ NotYet }
+    requires called { CanServe serving.now }
 {
     let input = Buffered::new(BufReader::new(alloc, reader)?);
-    Ok(serve(host, alloc, serving, input, errors))
+    Ok(serve(alloc, serving, input, listening, errors))
 }
 
 /// Serves where one can listen, and answers whether all went well.
@@ -80,6 +82,23 @@ pub fn can_listen<L: Listen>(alloc: Global, plan: LivePlan, listening: &mut L) -
     match listening.listen(alloc, plan) {
         Ok(device) => {
             listening.hang_up(device);
+            true
+        }
+        Err(_) => false,
+    }
+}
+
+/// Whether it can be listened for one connection after another. Nobody is served.
+pub fn can_listen_in_turn<L: Listen>(
+    alloc: Global,
+    listener: Endpoint<Address>,
+    listening: &mut L,
+) -> bool
+    requires { L.came listening.old ≡ NotYet }
+{
+    match listening.listen_in_turn(alloc, listener) {
+        Ok(acceptor) => {
+            listening.close(acceptor);
             true
         }
         Err(_) => false,

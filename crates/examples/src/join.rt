@@ -1,6 +1,6 @@
 //! Calls of `mseed_join`.
 use mseed_audit::{AuditFault, EachFault};
-use mseed_join::{Form, JoinsFault, audit_part, audit_part_each, join, join_each, read_parts};
+use mseed_join::{Form, JoinFault, audit_part, audit_part_each, join, join_each, read_parts};
 use mseed_stream::{Counted, Sink};
 use std::alloc::Global;
 
@@ -26,7 +26,7 @@ pub fn audit_of_parts<E: Sink>(
     alloc: Global,
     parts: &[u8],
     reported: &mut E,
-) -> Result<Vec<u8>, JoinsFault> {
+) -> Result<Vec<u8>, JoinFault> {
     let mut source = Counted::new(parts);
     let mut sink = Counted::new(Vec::new(alloc));
     join(
@@ -46,7 +46,7 @@ pub fn audit_with_borders<E: Sink>(
     alloc: Global,
     parts: &[u8],
     reported: &mut E,
-) -> Result<Vec<u8>, JoinsFault> {
+) -> Result<Vec<u8>, JoinFault> {
     let mut source = Counted::new(parts);
     let mut sink = Counted::new(Vec::new(alloc));
     join_each(alloc, true, None, &mut source, &mut sink, reported)?;
@@ -59,7 +59,7 @@ pub fn part_of_all<E: Sink>(
     parts: &[u8],
     expected: u64,
     reported: &mut E,
-) -> Result<Vec<u8>, JoinsFault> {
+) -> Result<Vec<u8>, JoinFault> {
     let mut source = Counted::new(parts);
     let mut sink = Counted::new(Vec::new(alloc));
     join(
@@ -80,7 +80,7 @@ pub fn records_of_parts<E: Sink>(
     alloc: Global,
     parts: &[u8],
     reported: &mut E,
-) -> Result<u64, JoinsFault> {
+) -> Result<u64, JoinFault> {
     let mut source = Counted::new(parts);
     let joint = read_parts(alloc, true, None, &mut source, reported)?;
     Ok(joint.part.records())

@@ -8,21 +8,28 @@ use mseed_stream::Sink;
 use mseed_text::Line;
 use slink_feed::{Client, Feed, LinkFault};
 use slink_links::{
-    Accept, Dial, DialFault, EndsHandshake, FetchEnd, FetchPlan, FetchTerms, ListenFault, Loss,
-    NetworkFault, Pause, ServePlan, Server, fetch, fetch_all, fetch_link, fetch_planned,
-    put_address, serve, serve_all, serve_link, serve_planned,
+    Accept, AcceptLog, Dial, DialFault, EndsHandshake, FetchEnd, FetchPlan, FetchTerms,
+    ListenFault, Loss, NetworkFault, Pause, ServePlan, Server, TcpAcceptor, fetch, fetch_all,
+    fetch_link, fetch_planned, put_address, serve_all, serve_link, serve_planned,
 };
 use slink_wire::{Address, Host, Timeout};
+use std::alloc::Global;
+use std::io;
 use std::io::Error;
 use std::net::Net;
 use std::time::Clock;
 
-/// Serves a feed to one connection at port 18000 of this machine. The exit status, or why the port can't be had.
+/// Serves a feed to one connection at port 18000 of this machine, and returns the exit status.
+///
+/// # Errors
+///
+/// Where the port can't be had, or there is no memory for the packets that are gathered.
 pub fn serve_one<N: Net + Clock, E: Sink>(
     host: &N,
+    alloc: Global,
     feed: Feed,
     errors: &mut E,
-) -> Result<u8, ListenFault> {
+) -> io::Result<u8> {
     let plan = ServePlan {
         address: Address::local(),
         port: 18_000,
@@ -30,7 +37,13 @@ pub fn serve_one<N: Net + Clock, E: Sink>(
         timeout: Timeout { seconds: 600 },
         feed,
     };
-    serve(host, &plan, errors)
+    let mut acceptor = TcpAcceptor::bind(host, alloc, plan.address, plan.port, plan.timeout)?;
+    Ok(serve_planned(&plan, &mut acceptor, errors))
+}
+
+/// Takes no more connections, and returns what is known of those that were taken: nothing at run time.
+pub fn closed<N: Net + Clock>(acceptor: TcpAcceptor<'_, N>) -> AcceptLog {
+    acceptor.into_log()
 }
 
 /// Why a port can't be had, by the error of a call that was to listen there.

@@ -9,7 +9,7 @@ ghost use Rattle.mseed_pack.specs.Traces.{trace_of};
 use mseed_audit::Series;
 use mseed_pack::{
     BadOption, Encoding, Listed, Options, PackFault, Packer, SeriesHead, SeriesView, Supply,
-    a_packing_exists, fit, fit_head, fit_view, pack, pack_into, pack_view,
+    a_packing_exists, fit, fit_head, fit_view, overwrite, pack, pack_into, pack_view,
 };
 use mseed_record::Codes;
 use mseed_stream::{Counted, Sink};
@@ -31,6 +31,11 @@ pub fn options_in(encoding: Encoding) -> Result<Options, BadOption> {
 /// Whether an encoding is one that is written.
 pub fn is_written(code: u8) -> bool {
     Encoding::of(code).is_some()
+}
+
+/// The options of a second series, whose records are numbered on after those of a first one.
+pub fn options_after(options: &Options, records: u64) -> Options {
+    options.after(records)
 }
 
 /// The records of a series, one after another.
@@ -86,7 +91,12 @@ pub fn pack_over(series: &Series, options: &Options, bytes: &mut [u8]) -> Result
     Ok(pack_into(&view, options, bytes))
 }
 
-/// The samples of a list, at most so many at once.
+/// Writes a text over some bytes, as far as they go.
+pub fn put_text(text: &[u8], bytes: &mut [u8]) {
+    overwrite(text, bytes);
+}
+
+/// The samples of a list, at most `most` at once.
 #[derive(Clone, Copy)]
 pub struct Pieces<'a> {
     /// The list, and how many of its samples were given.

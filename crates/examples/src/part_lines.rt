@@ -1,14 +1,14 @@
 //! Calls of `mseed_join`: lines.
 use mseed_audit::Channel;
 use mseed_join::{
-    Field, HEADER, first_bad_field, push_channel_line, push_counts_line, push_faults_line,
+    FIRST_LINE, Field, first_bad_field, push_channel_line, push_counts_line, push_faults_line,
     read_channel_line, read_counts_line, read_fault_line, read_faults_line,
 };
 use mseed_record::Codes;
 use mseed_stream::StreamFault;
 use std::alloc::{AllocError, Global};
 
-/// The text of a part of one channel, of so many records and bytes, in which so many faults were passed.
+/// The text of a part of one channel, of these numbers of records and bytes, in which `faults` faults were passed.
 pub fn text_of_one(
     alloc: Global,
     codes: &Codes,
@@ -17,7 +17,7 @@ pub fn text_of_one(
     faults: u64,
 ) -> Result<Vec<u8>, AllocError> {
     let mut text = Vec::new(alloc);
-    text.extend_from_slice(HEADER)?;
+    text.extend_from_slice(FIRST_LINE)?;
     push_channel_line(&mut text, codes, channel)?;
     push_counts_line(&mut text, records, bytes)?;
     push_faults_line(&mut text, faults)?;
@@ -43,7 +43,7 @@ pub fn reports_faults(line: &[u8]) -> bool {
     read_faults_line(line).is_some()
 }
 
-/// The fault that a line reports, after so many bytes.
+/// The fault that a line reports, after `bytes` bytes.
 pub fn fault_of_line(line: &[u8], bytes: u64) -> Option<StreamFault> {
     read_fault_line(line, bytes)
 }

@@ -1,17 +1,17 @@
 //! Calls of `mseed_join`: parts without a text.
 use mseed_audit::{Channel, Finding, Memory};
-use mseed_join::{JoinFault, Part, TooLarge, sum};
+use mseed_join::{Part, PartFault, TooLarge, sum};
 use mseed_record::Codes;
 use std::alloc::Global;
 
-/// The part of an archive of one channel, of so many records and bytes.
+/// The part of an archive of one channel, of these numbers of records and bytes.
 pub fn part_of_one(
     alloc: Global,
     codes: Codes,
     channel: &Channel,
     records: u64,
     bytes: u64,
-) -> Result<Part, JoinFault> {
+) -> Result<Part, PartFault> {
     let mut part = Part::new(alloc);
     part.add_channel(codes, channel)?;
     part.add_counts(records, bytes)?;
@@ -23,12 +23,12 @@ pub fn border_of(
     part: &mut Part,
     codes: Codes,
     channel: &Channel,
-) -> Result<Option<Finding>, JoinFault> {
+) -> Result<Option<Finding>, PartFault> {
     part.add_channel(codes, channel)
 }
 
 /// How many records and bytes two archives have, one after another.
-pub fn joint_counts(one: Part, other: &Part) -> Result<(u64, u64), JoinFault> {
+pub fn joint_counts(one: Part, other: &Part) -> Result<(u64, u64), PartFault> {
     let joint = one.join(other)?;
     Ok((joint.records(), joint.bytes()))
 }

@@ -4,7 +4,7 @@ ghost use Rattle.mseed_record.specs.Record.{IsRecord};
 
 use mseed_record::{
     All, Answer, BadCode, Choice, Codes, DataOffset, Fields, FrameFault, Framer, Leap, RecordView,
-    Scan, TooShort, ViewFault, is_blank, scan, trimmed, write_header,
+    Scan, TooShort, ViewFault, scan, trimmed, write_header,
 };
 use mseed_time::{Btime, LeapStep, Micros, NoRate, Order, Rate, TimeFault};
 
@@ -18,7 +18,7 @@ pub fn record_length(bytes: &[u8]) -> Option<usize>
     }
 }
 
-/// Frames bytes of which so many come before the others, and looks at no blockette twice.
+/// Frames bytes of which the first `first` come before the others, and looks at no blockette twice.
 pub fn frame_in_two(bytes: &[u8], first: usize) -> Scan
     requires { first ≤ length bytes.now }
 {
@@ -106,7 +106,7 @@ pub fn has_no_location(codes: &Codes) -> bool {
 
 /// Whether a channel is the vertical one of a broadband sensor, at no other place than the station's own.
 pub fn is_vertical(codes: &Codes) -> bool {
-    codes.channel() == b"BHZ".as_slice() && codes.location().iter().all(|byte| is_blank(*byte))
+    codes.channel() == b"BHZ".as_slice() && has_no_location(codes)
 }
 
 /// Whether a channel comes before another in lists.

@@ -6,8 +6,8 @@ ghost use Rattle.mseed_steim.specs.Reading.{IsSteim, IsWhole, count_of};
 use mseed_record::RecordView;
 use mseed_steim::{
     BadWord, BadWordAt, Differences, Encoding, ReadFault, Scheme, check_samples, ends_of,
-    fill_differences, fill_samples, is_steim, is_surely_near, near_ends, read_samples,
-    unpack_differences, unpack_word, widen_bytes,
+    fill_differences, fill_samples, is_steim, near_ends, read_samples, unpack_differences,
+    unpack_word, widen_bytes,
 };
 use std::alloc::Allocator;
 
@@ -81,11 +81,6 @@ pub fn steps_of_checked(view: &RecordView, steps: &mut [i32]) -> i32
     requires places { length steps.old ≡ count_of (view_of view.now) }
 {
     unpack_differences(view, steps).last
-}
-
-/// Whether Steim-2 holds a record's samples, as far as that shows before they are read.
-pub fn is_surely_packed(record: &RecordView) -> bool {
-    is_surely_near(record)
 }
 
 /// How far a record that was checked goes up, from its first sample to its last, where Steim-2 surely holds them.

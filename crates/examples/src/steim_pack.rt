@@ -6,7 +6,7 @@ ghost use Rattle.mseed_steim.specs.Spelling.{IsWithin};
 use mseed_steim::Scheme;
 use mseed_steim_pack::{
     Lookahead, TooLarge, TooLargeAt, least_words, pack_samples_ahead, pack_word, pack_words,
-    pack_words_ahead,
+    pack_words_ahead, write_word,
 };
 
 /// How many of the differences the first word of Steim-2 takes.
@@ -46,6 +46,12 @@ pub fn pack_samples_after(
     let mut known = Lookahead::new();
     let packed = pack_samples_ahead(Scheme::Two, before, samples, &mut known, frames)?;
     Ok(packed.used)
+}
+
+/// Writes the first and the last sample of a record into seven frames, as their two constants.
+pub fn put_ends(frames: &mut [u8; 448], first: i32, last: i32) {
+    write_word(frames, 1, first.cast_unsigned());
+    write_word(frames, 2, last.cast_unsigned());
 }
 
 /// The bytes of the fewest words of Steim-2 that hold the differences.

@@ -4,7 +4,7 @@ ghost use Rattle.mseed_text.specs.Fault.{fault_line};
 
 use mseed_record::{Codes, RecordView};
 use mseed_stream::StreamFault;
-use mseed_text::{Line, printed_byte, push_fault_line, push_line};
+use mseed_text::{Line, push_fault_line, push_line, shown_byte};
 use mseed_time::{Ratio, TimeFault};
 use std::alloc::{AllocError, Global};
 
@@ -99,5 +99,5 @@ pub fn push_unknown(text: &mut Vec<u8>, given: &[u8]) -> Result<(), AllocError> 
 
 /// Whether a text is shown as it is.
 pub fn is_plain(text: &[u8]) -> bool {
-    text.iter().all(|byte| printed_byte(*byte) == *byte)
+    text.iter().all(|byte| shown_byte(*byte) == *byte)
 }

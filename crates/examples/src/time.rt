@@ -13,7 +13,7 @@ use mseed_time::{
     drift, join, one_name, show_time, step_micros, two_digits,
 };
 
-/// The instant that is so many milliseconds from 1970-01-01T00:00:00.
+/// The instant that is `millis` milliseconds from 1970-01-01T00:00:00.
 pub fn of_millis(millis: i64) -> Option<Micros> {
     Micros::new(millis.checked_mul(1_000)?)
 }
@@ -76,7 +76,7 @@ pub fn swap_bytes(bytes: &mut [u8; 2]) {
     Order::Little.put_u16(bytes, 0, number);
 }
 
-/// One sample in so many seconds; the header writes it as a negative factor.
+/// One sample in `seconds` seconds; the header writes it as a negative factor.
 pub fn every(seconds: i16) -> Result<Rate, NoRate>
     ensures { IfOk result (λ r. r.multiplier ≡ pos 1) }
 {
@@ -93,7 +93,7 @@ pub fn are_written_alike(one: Rate, other: Rate) -> bool {
     one.same_as(other) && one.pair() == other.pair()
 }
 
-/// Whether a rate is that of so many samples in so many seconds.
+/// Whether a rate is that of `num` samples in `den` seconds.
 pub fn is_rate_of(rate: Rate, num: u32, den: u32) -> bool {
     match Ratio::new(num, den) {
         Some(ratio) => rate.ratio().same_as(ratio),

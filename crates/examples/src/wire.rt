@@ -6,8 +6,8 @@ ghost use Rattle.slink_wire.specs.Place.{SpellsPlace};
 
 use arrayvec::ArrayVec;
 use slink_wire::{
-    Address, BadPlace, Command, Host, Lines, Name, NotPacket, Packet, Place, Reply, Request,
-    Timeout, What, six_digits,
+    Address, BadPlace, Command, Host, LineOutcome, Lines, Name, NotPacket, Packet, Place, Reply,
+    Request, Timeout, header_codes, put, six_digits,
 };
 use std::time::Duration;
 
@@ -54,11 +54,19 @@ pub fn chooses(command: &Command, place: &Place) -> bool {
 /// The first command of a stream's first bytes, where its line has ended.
 pub fn first_command(bytes: &[u8]) -> Option<Command> {
     let mut lines = Lines::new();
-    let emitted = lines.take(bytes);
-    match emitted.what {
-        What::Line(line) => Some(Command::read(&line)),
-        What::More | What::TooLong => None,
+    let took = lines.take(bytes);
+    match took.what {
+        LineOutcome::Line(line) => Some(Command::read(&line)),
+        LineOutcome::More | LineOutcome::TooLong => None,
     }
+}
+
+/// The line by which a client asks for a server's name.
+pub fn greeting() -> ArrayVec<u8, 32> {
+    let mut line = ArrayVec::new();
+    put(&mut line, b"HELLO");
+    put(&mut line, b"\r\n");
+    line
 }
 
 /// The bytes by which a server refuses a line.
@@ -103,6 +111,11 @@ pub fn digits_after(number: u32) -> [u8; 6]
     requires { number < 2 ^ 24 }
 {
     six_digits(number + 1)
+}
+
+/// Whether two records are of one station, in whatever networks.
+pub fn are_of_one_station(one: &[u8; 512], other: &[u8; 512]) -> bool {
+    header_codes(one).0 == header_codes(other).0
 }
 
 /// Whom an argument names: this machine, or a host that the system resolves.
