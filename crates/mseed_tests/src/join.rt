@@ -9,7 +9,7 @@ use crate::records::{START, alone, both};
 use linked_list_allocator::LocalHeap;
 use mseed_audit::Channel;
 use mseed_join::{
-    Field, HEADER, first_bad_field, push_channel_line, push_counts_line, push_faults_line,
+    FIRST_LINE, Field, first_bad_field, push_channel_line, push_counts_line, push_faults_line,
     read_channel_line, read_counts_line, read_fault_line, read_faults_line,
 };
 use mseed_record::Codes;
@@ -195,7 +195,7 @@ fn reads_rows(rt: HostRuntime) {
     assert!(rt; is_read(LINES[1], &both(&rt)));
     assert!(rt; read_counts_line(b"records 2 bytes 256\n") == Some((2, 256)));
     assert!(rt; read_faults_line(b"faults 3\n") == Some(3));
-    assert!(rt; HEADER == b"mseed part 1\n".as_slice());
+    assert!(rt; FIRST_LINE == b"mseed part 1\n".as_slice());
 }
 
 /// The first bad field of a line, where it is neither of a channel nor of the counts.

@@ -2,7 +2,7 @@
 
 use crate::records::{LATE_START, START, alone, both};
 use mseed_audit::Channel;
-use mseed_join::{JoinFault, Part};
+use mseed_join::{Part, PartFault};
 use mseed_record::Codes;
 use std::alloc::Global;
 use std::process::Abort;
@@ -21,7 +21,7 @@ fn first_part(rt: &impl Abort, alloc: Global) -> Part {
     let mut part = Part::new(alloc);
     add(rt, &mut part, BHZ, START);
     assert!(rt; part.add_counts(1, 128) == Ok(()));
-    assert!(rt; part.add_counts(u64::MAX >> 1, 0) == Err(JoinFault::Limit));
+    assert!(rt; part.add_counts(u64::MAX >> 1, 0) == Err(PartFault::Limit));
     part
 }
 

@@ -2,7 +2,7 @@
 
 use super::auditing::{OF_FIRST, OF_LATE};
 use crate::audit::devices::{self, sink_with};
-use mseed_join::{Closing, Field, Flaw, Form, Joined, JoinsFault, join, join_each};
+use mseed_join::{Closing, Field, Flaw, Form, JoinFault, Joined, join, join_each};
 use mseed_stream::Counted;
 use std::alloc::{Allocator, Global};
 use std::process::Abort;
@@ -54,7 +54,7 @@ pub(super) fn joint(rt: &impl Abort, alloc: Global, parts: &[&str; 3]) -> String
 /// What comes of a join: the answer, and what is written and reported.
 #[derive(Drop)]
 struct Outcome {
-    answer: Result<Joined, JoinsFault>,
+    answer: Result<Joined, JoinFault>,
     written: Vec<u8>,
     reported: Vec<u8>,
 }
@@ -110,7 +110,7 @@ fn outcome_of<A: Allocator + Copy>(
 const ALL: usize = 1 << 20;
 
 /// What is answered of a join.
-pub(super) type Answer = Result<Joined, JoinsFault>;
+pub(super) type Answer = Result<Joined, JoinFault>;
 
 /// Three texts of parts and how they are joined; and what is written, reported and answered.
 pub(super) type Row = ([&'static str; 3], How, &'static str, &'static str, Answer);
@@ -140,11 +140,11 @@ pub(super) const BOTH: Answer = Ok(Joined {
 });
 
 /// What is answered where there are so many parts of those that are expected.
-const NONE_OF_1: Answer = Err(JoinsFault::Count(0, 1));
+const NONE_OF_1: Answer = Err(JoinFault::Count(0, 1));
 
-pub(super) const TWO_OF_1: Answer = Err(JoinsFault::Count(2, 1));
+pub(super) const TWO_OF_1: Answer = Err(JoinFault::Count(2, 1));
 
-pub(super) const TWO_OF_3: Answer = Err(JoinsFault::Count(2, 3));
+pub(super) const TWO_OF_3: Answer = Err(JoinFault::Count(2, 3));
 
 const ROWS: [Row; 5] = [
     (NOTHING, (AN_AUDIT, false, None), EMPTY, "", WELL),
@@ -211,7 +211,7 @@ const BAD_LINES: [(&str, u64, u64, Flaw); 6] = [
 ];
 
 /// Whether the audit of a text is refused so, with nothing written.
-fn is_refused(alloc: Global, text: &str, fault: JoinsFault) -> bool {
+fn is_refused(alloc: Global, text: &str, fault: JoinFault) -> bool {
     let how = (AN_AUDIT, false, None);
     let outcome = outcome_of(alloc, alloc, text.as_bytes(), how, ALL);
     outcome.answer == Err(fault) && outcome.written.is_empty()
@@ -220,7 +220,7 @@ fn is_refused(alloc: Global, text: &str, fault: JoinsFault) -> bool {
 #[test]
 fn names_bad_lines(rt: HostRuntime) {
     for (text, number, offset, flaw) in &BAD_LINES {
-        let fault = JoinsFault::Line {
+        let fault = JoinFault::Line {
             number: *number,
             offset: *offset,
             flaw: *flaw,
@@ -231,7 +231,7 @@ fn names_bad_lines(rt: HostRuntime) {
 
 /// Whether a join says that an output without room failed.
 pub(super) fn says_that_it_failed(alloc: Global, bytes: &[u8], how: How) -> bool {
-    outcome_of(alloc, alloc, bytes, how, 0).answer == Err(JoinsFault::Write)
+    outcome_of(alloc, alloc, bytes, how, 0).answer == Err(JoinFault::Write)
 }
 
 #[test]
@@ -247,7 +247,7 @@ fn is_enough(rt: &impl Abort, outcome: &Outcome, text: &str, most: usize) -> boo
     if outcome.answer.is_ok() {
         assert!(rt; written == text.len());
     } else {
-        assert!(rt; outcome.answer == Err(JoinsFault::Memory) && written <= most);
+        assert!(rt; outcome.answer == Err(JoinFault::Memory) && written <= most);
     }
     outcome.answer.is_ok()
 }

@@ -5,7 +5,7 @@ use super::joining::{
     Answer, BOTH, BROKEN, CUT, CUT_OFF, EMPTY, FAULTY, NOTHING, REPORTED, Row, SOUND, TWO_OF_1,
     TWO_OF_3, WELL, assert_refusals, is_joined, joint, says_that_it_failed,
 };
-use mseed_join::{Closing, Flaw, JoinsFault};
+use mseed_join::{Closing, Flaw, JoinFault};
 
 /// The line of the border between both records.
 const BORDER: &str = "128 XX_STA__BHZ record 2 start 2024-01-01T00:00:00.825001 gap 25001\n";
@@ -36,7 +36,7 @@ const ROWS: [Row; 9] = [
 /// The parts of both records, and a text that is none; and what is answered there.
 const BAD: [&str; 3] = [OF_FIRST, OF_LATE, "mseed part 2\n"];
 
-const BAD_LINE: Answer = Err(JoinsFault::Line {
+const BAD_LINE: Answer = Err(JoinFault::Line {
     number: 7,
     offset: 312,
     flaw: Flaw::Ending(Closing::Neither),
