@@ -15,18 +15,37 @@ use crate::model::{place, record};
 use mseed_stream::{Counted, Duplex, Exchanges, Failed, Sink, Source, Tally};
 use slink_feed::{Client, Feed, Mode};
 use slink_links::{
-    Accept, Dial, DialFault, EndsHandshake, FetchPlan, Loss, NetworkFault, Pause, ServePlan,
-    Trouble,
+    Accept, Dial, DialFault, EndsHandshake, FetchPlan, ListenFault, Loss, NetworkFault, Pause,
+    ServePlan, TcpAcceptor, Trouble, serve_planned,
 };
 use slink_wire::{Address, Host, Packet, Timeout};
 use std::alloc::Global;
 use std::io;
 use std::io::{ErrorKind, Read, Write};
+use std::net::Net;
 use std::ops::Range;
 use std::process::Abort;
+use std::time::Clock;
 
 /// Room for all that is written.
 const ALL: usize = 1 << 20;
+
+/// Serves what a plan says over TCP, and returns the exit status.
+///
+/// # Errors
+///
+/// Why the port can't be had, or memory; nothing is reported then.
+fn serve<N: Net + Clock, E: Sink>(
+    host: &N,
+    alloc: Global,
+    plan: &ServePlan,
+    errors: &mut E,
+) -> Result<u8, ListenFault> {
+    match TcpAcceptor::bind(host, alloc, plan.address, plan.port, plan.timeout) {
+        Ok(mut acceptor) => Ok(serve_planned(plan, &mut acceptor, errors)),
+        Err(error) => Err(ListenFault::of(&error)),
+    }
+}
 
 /// The line of a link that failed, where the status says so.
 fn line_of(status: u8) -> &'static [u8] {

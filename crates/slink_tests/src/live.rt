@@ -14,12 +14,13 @@ use std::process::Abort;
 
 const SLOTS: usize = 3;
 
-/// A client: what it says, what it accepted, and after how many whole records of the input its link was closed.
+/// A client: what it says, how many bytes of that it has said, what it received, and after how many whole records of
+/// the input its link was closed.
 #[derive(Drop)]
 struct Peer {
     says: Vec<u8>,
-    produced: usize,
-    emitted: Vec<u8>,
+    said: usize,
+    received: Vec<u8>,
     closed: Option<usize>,
 }
 
@@ -98,9 +99,9 @@ impl Script {
         let most = self.noise.below(9);
         match self.peer(slot) {
             Some(k) if k < self.peers.len() => {
-                let produced = self.peers[k].produced.min(self.peers[k].says.len());
-                let count = copy(&self.peers[k].says[produced..], most, buf);
-                self.peers[k].produced = produced.saturating_add(count);
+                let said = self.peers[k].said.min(self.peers[k].says.len());
+                let count = copy(&self.peers[k].says[said..], most, buf);
+                self.peers[k].said = said.saturating_add(count);
                 count
             }
             _ => 0,
@@ -115,7 +116,7 @@ impl Script {
         let count = self.noise.below(900).min(bytes.len());
         match self.peer(slot) {
             Some(k) if k < self.peers.len() && !self.is_deaf => {
-                match self.peers[k].emitted.extend_from_slice(&bytes[..count]) {
+                match self.peers[k].received.extend_from_slice(&bytes[..count]) {
                     Ok(()) => count,
                     Err(_) => 0,
                 }
@@ -267,8 +268,8 @@ fn three_peers(rt: &impl Abort, alloc: Global) -> Vec<Peer> {
         push(rt, &mut says, SAYS);
         let peer = Peer {
             says,
-            produced: 0,
-            emitted: Vec::new(alloc),
+            said: 0,
+            received: Vec::new(alloc),
             closed: None,
         };
         peers.push(peer).expect(rt, "memory");
@@ -307,10 +308,10 @@ fn script_of(rt: &impl Abort, alloc: Global, input: Vec<u8>, seed: u64) -> Scrip
     }
 }
 
-/// Whether each of these clients accepted all that is owed to it.
+/// Whether each of these clients received all that is owed to it.
 fn have_what_is_owed(peers: &[Peer], owed: &[u8]) -> bool {
     let mut peers = peers.iter();
-    peers.all(|peer| peer.emitted.as_slice() == owed)
+    peers.all(|peer| peer.received.as_slice() == owed)
 }
 
 /// Whether a server answers so by an order, and well if it goes on, with something of the order left.
@@ -368,7 +369,7 @@ fn loses_all(server: &mut Server, script: &mut Script) -> bool
 {
     let is_well = server.serve(script).is_ok() && script.left > 0;
     let mut peers = script.peers.iter();
-    is_well && peers.all(|peer| peer.emitted.is_empty() && matches!(peer.closed, Some(14 | 15)))
+    is_well && peers.all(|peer| peer.received.is_empty() && matches!(peer.closed, Some(14 | 15)))
 }
 
 #[test]

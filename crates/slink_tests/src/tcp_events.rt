@@ -94,22 +94,34 @@ fn seen_from<N: Net>(rt: &impl Abort, host: &N, alloc: Global, from: u64, to: u6
     seen
 }
 
-#[test]
-fn tells_what_is_so(rt: HostRuntime) {
-    let seen = seen_from(&rt, &rt, rt.alloc(), 0, 12_000);
+/// Whether the device does nothing in the schedules of these seeds that it may not, with all kinds of ends among them.
+fn is_so_from<N: Net>(rt: &impl Abort, host: &N, alloc: Global, from: u64, to: u64) {
+    let seen = seen_from(rt, host, alloc, from, to);
     assert!(rt;
         seen.halved > 0 && seen.left > 0 && seen.given_up > 0,
         "{seen:?}"
     );
 }
 
+// Four tests, since each connection keeps its port for a minute, by which the next ones take longer.
+#[test]
+fn tells_what_is_so(rt: HostRuntime) {
+    is_so_from(&rt, &rt, rt.alloc(), 0, 6_000);
+}
+
+#[test]
+fn tells_what_is_so_in_more(rt: HostRuntime) {
+    is_so_from(&rt, &rt, rt.alloc(), 6_000, 12_000);
+}
+
 #[test]
 fn tells_what_is_so_in_others(rt: HostRuntime) {
-    let seen = seen_from(&rt, &rt, rt.alloc(), 12_000, 24_000);
-    assert!(rt;
-        seen.halved > 0 && seen.left > 0 && seen.given_up > 0,
-        "{seen:?}"
-    );
+    is_so_from(&rt, &rt, rt.alloc(), 12_000, 18_000);
+}
+
+#[test]
+fn tells_what_is_so_in_the_last(rt: HostRuntime) {
+    is_so_from(&rt, &rt, rt.alloc(), 18_000, 24_000);
 }
 
 #[test]

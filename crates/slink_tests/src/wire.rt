@@ -5,7 +5,7 @@ ghost use Rattle.slink_wire.specs.Request.{IsSpelled};
 
 mod stream;
 
-use slink_wire::{Command, Lines, Packet, Place, Reply, Request, What};
+use slink_wire::{Command, LineOutcome, Lines, Packet, Place, Reply, Request};
 use std::process::Abort;
 
 /// A packet, or what may be taken for one.
@@ -74,12 +74,12 @@ fn spells_places(rt: HostRuntime) {
 
 /// Whether so much of a piece is used, and it ends this line, or none.
 fn takes(lines: &mut Lines, piece: &[u8], used: usize, line: Option<&[u8]>) -> bool {
-    let emitted = lines.take(piece);
-    emitted.used == used
-        && match emitted.what {
-            What::Line(found) => Some(found.as_slice()) == line,
-            What::More => line.is_none(),
-            What::TooLong => false,
+    let took = lines.take(piece);
+    took.used == used
+        && match took.what {
+            LineOutcome::Line(found) => Some(found.as_slice()) == line,
+            LineOutcome::More => line.is_none(),
+            LineOutcome::TooLong => false,
         }
 }
 
@@ -100,8 +100,8 @@ fn takes_lines_in_pieces(rt: HostRuntime) {
 
 /// Whether so much of a piece is used, and the line is too long.
 fn is_too_long(lines: &mut Lines, piece: &[u8], used: usize) -> bool {
-    let emitted = lines.take(piece);
-    emitted.used == used && matches!(emitted.what, What::TooLong)
+    let took = lines.take(piece);
+    took.used == used && matches!(took.what, LineOutcome::TooLong)
 }
 
 /// The longest line, and its end.
@@ -207,12 +207,12 @@ fn is_next(at: &mut usize, command: Option<Command>) -> bool {
 fn takes_piece(rt: &impl Abort, lines: &mut Lines, piece: &[u8], at: &mut usize) -> bool {
     let mut rest = piece;
     for _ in 0..64 {
-        let emitted = lines.take(rest);
-        rest = &rest[emitted.used..];
-        match emitted.what {
-            What::More => return false,
-            What::Line(line) => assert!(rt; is_next(at, Some(Command::read(&line))), "{at}"),
-            What::TooLong => {
+        let took = lines.take(rest);
+        rest = &rest[took.used..];
+        match took.what {
+            LineOutcome::More => return false,
+            LineOutcome::Line(line) => assert!(rt; is_next(at, Some(Command::read(&line))), "{at}"),
+            LineOutcome::TooLong => {
                 assert!(rt; is_next(at, None));
                 return true;
             }

@@ -2,11 +2,11 @@
 //! one stream notes each of its calls.
 
 use super::{
-    ALL, line_of, output, packets, plan_of, records, serve_plan_of, taken_by, two_packets,
+    ALL, line_of, output, packets, plan_of, records, serve, serve_plan_of, taken_by, two_packets,
 };
 use crate::model::{place, pushed, three_pushed};
 use slink_feed::{Client, Feed, Mode};
-use slink_links::{fetch, serve};
+use slink_links::fetch;
 use std::alloc::Global;
 use std::cell::Cell;
 use std::io;
@@ -148,7 +148,7 @@ impl Write for End<'_> {
 fn is_served(wire: &Wire, feed: Feed, status: u8) -> bool {
     let plan = serve_plan_of(feed, 1, 0);
     let mut errors = output(wire.alloc, ALL);
-    let ended = serve(&End { wire }, &plan, &mut errors);
+    let ended = serve(&End { wire }, wire.alloc, &plan, &mut errors);
     ended == Ok(status) && taken_by(errors).as_slice() == line_of(status)
 }
 

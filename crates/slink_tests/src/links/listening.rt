@@ -1,8 +1,7 @@
 //! Why a server can't listen, by the errors of a host that gives no port.
 
-use super::{ALL, output, serve_plan_of, taken_by};
+use super::{ALL, output, serve, serve_plan_of, taken_by};
 use crate::model::three_pushed;
-use slink_links::serve;
 use std::alloc::Global;
 use std::io;
 use std::net::{Net, SocketAddr};
@@ -59,7 +58,7 @@ static REASONS: [(i32, &str); 11] = [
 fn is_refused<N: Net + Clock>(rt: &impl Abort, host: &N, alloc: Global, words: &str) -> bool {
     let plan = serve_plan_of(three_pushed(rt, alloc, 0), 1, 0);
     let mut errors = output(alloc, ALL);
-    match serve(host, &plan, &mut errors) {
+    match serve(host, alloc, &plan, &mut errors) {
         Ok(_) => false,
         Err(fault) => fault.text() == words && taken_by(errors).is_empty(),
     }

@@ -2,14 +2,14 @@
 ghost use Rattle.slink_feed.specs.Session.{Fits};
 
 use super::{
-    ALL, FROM_1, client, output, plan_of, rest_of, serve_plan_of, taken_by, two_packets,
+    ALL, FROM_1, client, output, plan_of, rest_of, serve, serve_plan_of, taken_by, two_packets,
     two_records,
 };
 use crate::live::push;
 use crate::model::three_pushed;
 use mseed_stream::{Counted, Duplex, Sink, write_all_of};
 use slink_feed::{Client, Feed, Session, Turn, fetch_turn, serve_turn};
-use slink_links::{fetch, serve};
+use slink_links::fetch;
 use std::alloc::{Allocator, Global};
 use std::cell::Cell;
 use std::io;
@@ -111,7 +111,7 @@ fn all_sent(rt: &impl Abort, alloc: Global) -> Vec<u8> {
 fn serves_one<N: Net + Clock>(rt: &impl Abort, host: &N, alloc: Global) -> bool {
     let plan = serve_plan_of(three_pushed(rt, alloc, 0), 1, 0);
     let mut errors = output(alloc, ALL);
-    let status = serve(host, &plan, &mut errors);
+    let status = serve(host, alloc, &plan, &mut errors);
     status == Ok(0) && taken_by(errors).is_empty()
 }
 

@@ -90,7 +90,7 @@ fn is_fetched(rt: &impl Abort, room: usize, turns: &[Result<Turn, LinkFault>], n
 
 #[test]
 fn fetches_until_the_output_fails(rt: HostRuntime) {
-    // The first turn reads 1024 bytes, in which the second packet isn't whole.
+    // The first turn reads one packet, 520 bytes.
     assert!(rt; is_fetched(&rt, 511, &[Err(LinkFault::Output(511))], 2));
     assert!(rt; is_fetched(&rt, 612, &[Ok(Turn::Goes), Err(LinkFault::Output(100))], 3));
     assert!(rt;
