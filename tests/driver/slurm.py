@@ -21,7 +21,7 @@ PACKAGES = "munge, slurmctld, slurmd, slurm-client"
 DAEMONS = ["munged", "slurmctld", "slurmd"]
 COMMANDS = ["sbatch", "scancel", "sinfo", "squeue"]
 # So long a daemon may take to come up, and to end.
-SECONDS = 60.0
+SECONDS = 180.0
 
 SETTINGS = """\
 ClusterName=tested

@@ -179,6 +179,9 @@ def damage(folder: Path) -> Cases:
     path = folder / "requests"
     path.write_text(f"{LINE}\nIU ANMO 00 BHZ 2024-01-01 2024-01-02\n")
     yield Fact("two requests of it", (2, OVER + FIRST + NOON), extracted(root, "--list", str(path))[:2])
+    path.write_text("XX ANMO 00 BHE 2024-01-01 2024-01-03\nXX ANMO * BHE 2024-01-01 2024-01-03\n")
+    yield Fact("two requests of what can't be opened", (2, EAST, "".join(f"{line}\n" for line in unread)),
+               extracted(root, "--list", str(path)))
     status, out, err = extracted(root, "--everywhere", "--channels", "IU_*_*_*")
     yield Fact("everywhere", (2, OVER + FIRST + NOON + NO_TIME + NO_TIME + LOST), (status, out))
     others = [f"{root}/2024/XX/ABC/VHZ.D/notes: fault at 0 truncated 1, 1 bytes skipped",

@@ -7,6 +7,9 @@ from __future__ import annotations
 
 import contextlib
 import datetime
+import errno
+import gc
+import itertools
 import os
 import re
 import select
@@ -20,11 +23,10 @@ import time
 import xml.etree.ElementTree
 from pathlib import Path
 from random import Random
-from typing import Callable, Sequence
+from typing import Callable, Iterator, Optional, Sequence
 from unittest import mock
 
 from driver.program import LIMIT, PROGRAM, ROOT
-from driver.records import record
 from driver.rows import Cases, Fact, Skipped, holds
 from driver.service import QUERY, Reply, Service, all_of, errors_of, lines_as_body, reply_in, serving
 from driver.tools import TOOLS, tool, write_tree
@@ -33,7 +35,9 @@ from rows.tools_extract import (DAY, EAST, FIRST, LONG, NOON, OVER, TREE, at, ex
 
 sys.path.insert(0, str(TOOLS))
 
+import mseed_tools.lengths  # noqa: E402
 import mseed_tools.program  # noqa: E402
+import mseed_tools.selecting  # noqa: E402
 import mseed_tools.service  # noqa: E402
 import mseed_tools.serving  # noqa: E402
 
@@ -310,35 +314,109 @@ def clients(folder: Path) -> Cases:
                 connection.sendall(f"GET {QUERY}?{query} HTTP/1.1\r\nHost: here\r\n\r\n".encode())
                 yield holds(f"a run is begun, ?{query}", service.children_come(True))
             yield holds(f"it ends where its client has gone before a byte, ?{query}", service.children_come(False))
+    yield from leaving_later(folder / "sound")
 
 
-def slow_to_ask(folder: Path) -> Cases:
-    """Clients that send their request a byte at a time, for longer than they may."""
-    root = folder / "sound"
-    with mock.patch.object(mseed_tools.serving, "TO_ASK", 1), \
+def leaving_later(root: Path) -> Cases:
+    """What is begun once records were selected ends too where the client has gone: to know which of them a second line
+    asks for, or which are taken away."""
+    folder = root.parent
+    begun, program = folder / "begun", folder / "shows_late"
+    program.write_text(f'#!/bin/sh\n[ "$1" = select ] && exec {PROGRAM} "$@"\ntouch {begun}\nexec sleep 300\n',
+                       encoding="utf-8")
+    program.chmod(0o755)
+    lines = f"{LINE}\n{LINE.replace('ANMO', '*')}\n"
+    requests = {word: f"GET {QUERY}?net=IU&{word} HTTP/1.0\r\n\r\n"
+                for word in ("minimumlength=1", "longestonly=true", "quality=D")}
+    requests["a second line"] = f"POST {QUERY} HTTP/1.0\r\nContent-Length: {len(lines)}\r\n\r\n{lines}"
+    with serving(root, program=program) as service:
+        for name, request in requests.items():
+            begun.unlink(missing_ok=True)
+            with service.connected() as connection:
+                connection.sendall(request.encode())
+                until = time.monotonic() + LIMIT
+                while not begun.exists() and time.monotonic() < until:
+                    connection.settimeout(0.05)
+                    with contextlib.suppress(socket.timeout):
+                        connection.recv(2**20)
+            yield holds(f"a run is begun, {name}", begun.exists())
+            yield holds(f"it ends where its client has gone, {name}", service.children_come(False))
+
+
+@contextlib.contextmanager
+def in_this_process(root: Path) -> Iterator[Service]:
+    """A service over a tree in a thread of this process, which reports nothing."""
+    with mock.patch.object(mseed_tools.serving, "told"), \
             mseed_tools.serving.Server(("127.0.0.1", 0), mseed_tools.service.Service(
                 root, program=mseed_tools.program.Program(str(PROGRAM)), tell=lambda line: None)) as server:
         thread = threading.Thread(target=server.serve_forever)
         thread.start()
         try:
-            for name, begun, wanted in (("a request", f"GET {QUERY}?net=IU HTTP/1.1\r\nX: ", b""),
-                                        ("a body", f"POST {QUERY} HTTP/1.1\r\nContent-Length: 1000\r\n\r\n", b"400")):
-                with socket.create_connection(("127.0.0.1", server.server_port), timeout=LIMIT) as link:
-                    link.sendall(begun.encode())
-                    began, link_is_up = time.monotonic(), True
-                    while link_is_up and time.monotonic() - began < 60:
-                        time.sleep(0.05)
-                        with contextlib.suppress(ConnectionError):
-                            link.sendall(b"x")
-                        link_is_up = not select.select([link], [], [], 0)[0]
-                    came = all_of(link)
-                yield holds(f"{name} that doesn't become whole is given up", time.monotonic() - began < 30 and
-                            came[9:12] == wanted, came)
-            service = Service(None, server.server_port, None)
-            yield Fact("a whole one is answered", (200, OVER + FIRST + NOON), service.query("net=IU")[::2])
+            yield Service(None, server.server_port, None)
         finally:
             server.shutdown()
             thread.join()
+
+
+def slow_to_ask(folder: Path) -> Cases:
+    """Clients that send their request a byte at a time, for longer than they may."""
+    with mock.patch.object(mseed_tools.serving, "TO_ASK", 1), in_this_process(folder / "sound") as service:
+        for name, begun, wanted in (("a request", f"GET {QUERY}?net=IU HTTP/1.1\r\nX: ", b""),
+                                    ("a body", f"POST {QUERY} HTTP/1.1\r\nContent-Length: 1000\r\n\r\n", b"400")):
+            with service.connected() as link:
+                link.sendall(begun.encode())
+                began, link_is_up = time.monotonic(), True
+                while link_is_up and time.monotonic() - began < 60:
+                    time.sleep(0.05)
+                    with contextlib.suppress(ConnectionError):
+                        link.sendall(b"x")
+                    link_is_up = not select.select([link], [], [], 0)[0]
+                came = all_of(link)
+            yield holds(f"{name} that doesn't become whole is given up", time.monotonic() - began < 30 and
+                        came[9:12] == wanted, came)
+        yield Fact("a whole one is answered", (200, OVER + FIRST + NOON), service.query("net=IU")[::2])
+
+
+def answered(service: Service) -> Reply:
+    """What a client is told that asks for nothing."""
+    with service.connected() as link:
+        return reply_in(all_of(link))
+
+
+def crowded(folder: Path) -> Cases:
+    """Clients that can't be answered are told so, and others are answered once that can be."""
+    root = folder / "crowded"
+    write_tree(root, TREE)
+    with serving(root) as service, contextlib.ExitStack() as links:
+        for _ in range(mseed_tools.serving.MOST_CLIENTS):
+            links.enter_context(service.connected())
+        yield Fact("one client more than are answered at once", 503, answered(service).status)
+        until = time.monotonic() + 20
+        while not errors_of(root) and time.monotonic() < until:
+            time.sleep(0.05)
+    log = errors_of(root)
+    yield holds("it is logged", re.match(r'127\.0\.0\.1 "" 503 \d+ bytes [0-9.]+ s\n', log), log)
+    with in_this_process(root) as service:
+        with mock.patch.object(threading.Thread, "start", side_effect=RuntimeError("can't start new thread")):
+            came = {answered(service).status for _ in range(mseed_tools.serving.MOST_CLIENTS + 1)}
+        yield Fact("without threads, and with some again", ({503}, 200), (came, service.query("net=IU").status))
+
+
+def few_files(folder: Path) -> Cases:
+    """Where no more files can be open, none stays open of a run that wasn't begun, and no run stays."""
+    program, path = mseed_tools.program.Program(str(PROGRAM)), str(folder / "sound" / path_of("IU.ANMO.00.BHZ", DAY))
+    full = OSError(errno.EMFILE, os.strerror(errno.EMFILE))
+    for name, call in (("scratch", "mseed_tools.selecting.scratch"), ("pipe", "mseed_tools.selecting.os.pipe")):
+        before = sorted(os.listdir("/proc/self/fd"))
+        with mock.patch(call, side_effect=full), contextlib.suppress(OSError):
+            mseed_tools.selecting.Run(program, ["show"], None)
+        yield Fact(f"files of a run without a {name}", before, sorted(os.listdir("/proc/self/fd")))
+    before = sorted(os.listdir("/proc/self/fd"))
+    with mock.patch("mseed_tools.selecting.scratch", side_effect=[mseed_tools.program.scratch(), full]), \
+            contextlib.suppress(OSError):
+        list(mseed_tools.lengths.records(program, path, None))
+    gc.collect()
+    yield Fact("files of two runs of which the second can't be begun", before, sorted(os.listdir("/proc/self/fd")))
 
 
 def failing(folder: Path) -> Cases:
@@ -355,16 +433,44 @@ def failing(folder: Path) -> Cases:
                 yield Fact("a program without memory", (500, True), (reply.status, "Error 500: Internal server error\n"
                                                                      in reply.text))
                 continue
-            with service.connected() as connection:
-                connection.sendall(f"GET {QUERY}?net=IU HTTP/1.1\r\nHost: here\r\n\r\n".encode())
-                is_reset = False
-                try:
-                    while connection.recv(2**16):
-                        pass
-                except ConnectionResetError:
-                    is_reset = True
-                yield holds("an answer that is cut off is no whole one", is_reset)
+            yield holds("an answer that is cut off is no whole one", is_reset(service, "net=IU"))
         yield holds("what failed is reported", "ToolError" in errors_of(root), errors_of(root))
+
+
+def is_reset(service: Service, query: str, half_closed_after: Optional[int] = None) -> bool:
+    """Whether the connection of a client that asks for records is reset, so that what came is no whole answer. Where a
+    number is given, the client closes its half once it has so many bytes."""
+    with service.connected() as connection:
+        connection.sendall(f"GET {QUERY}?{query} HTTP/1.1\r\nHost: here\r\n\r\n".encode())
+        if half_closed_after is not None:
+            all(connection.recv(1) for _ in range(half_closed_after))
+            connection.shutdown(socket.SHUT_WR)
+        try:
+            while connection.recv(2**16):
+                pass
+        except ConnectionResetError:
+            return True
+    return False
+
+
+def half_closed(folder: Path) -> Cases:
+    """A client that closes its half of the connection counts as gone where it has to wait: its connection is cut, so
+    that it never takes no answer, or a part of one, for all that there is."""
+    root = folder / "sound"
+    for when, after, text, line in (
+            ("before the answer", 0, "exec sleep 300", "- 0 bytes cut off after"),
+            ("within the answer", 1, f"{PROGRAM} \"$@\"; exec sleep 300", r"200 \d+ bytes cut off after")):
+        program = folder / "waiting"
+        program.write_text(f"#!/bin/sh\n{text}\n", encoding="utf-8")
+        program.chmod(0o755)
+        with serving(root, program=program) as service:
+            yield holds(f"half of the connection is closed {when}", is_reset(service, "net=IU", after))
+            yield holds(f"what is selected ends, {when}", service.children_come(False))
+            until = time.monotonic() + 20
+            while not errors_of(root) and time.monotonic() < until:
+                time.sleep(0.05)
+        yield holds(f"it is logged, {when}", re.fullmatch(f'127.0.0.1 ".*" {line} [0-9.]+ s\n', errors_of(root)),
+                    errors_of(root))
 
 
 def damaged(folder: Path) -> Cases:
@@ -376,6 +482,17 @@ def damaged(folder: Path) -> Cases:
         yield Fact("a damaged tree", (200, OVER + FIRST + NOON), service.query("net=IU")[::2])
     yield holds("it is reported", f"{root / day}: fault at 128 notdata, 128 bytes skipped\n" in errors_of(root),
                 errors_of(root))
+
+
+def no_log(folder: Path) -> Cases:
+    """Where the log can't be written, requests are answered all the same."""
+    root = folder / "unlogged"
+    write_tree(root, TREE)
+    (folder / "unlogged.errors").symlink_to("/dev/full")
+    with serving(root) as service:
+        for query, status in (("net=IU", 200), ("net=ZZ", 204), ("net=..", 400)):
+            yield Fact(f"a log that is full, ?{query}", (status, False),
+                       (service.query(query).status, is_reset(service, query)))
 
 
 WORDS = ["..", "../..", "/etc/passwd", "%2e%2e%2f", "%00", "\\", "*", "?", "%", "%25", "%ff", "\x00", "a" * 300, "--",
@@ -430,7 +547,7 @@ def harm(folder: Path) -> Cases:
         for thread in threads:
             thread.join()
         yield Fact("harmful requests", HARMFUL // 4 * 4, len(statuses))
-        yield Fact("their statuses", set(), set(statuses) - {0, 200, 204, 400, 404, 405, 414, 501, 505})
+        yield Fact("their statuses", set(), set(statuses) - {200, 204, 400, 404, 405})
         yield holds("some are carried out, and some refused", statuses.count(200) > 10 and statuses.count(400) > 100)
         yield from sizes(service)
         lines = service.opened()
@@ -454,15 +571,27 @@ def elsewhere(lines: Sequence[str], places: Sequence[Path]) -> list[str]:
 
 def sizes(service: Service) -> Cases:
     """Large requests, and some that ask for very much."""
-    wide, lists = "* * * * 1900-01-01 2100-01-01\n", ",".join(["A"] * 1000)
-    for name, content, wanted in [
-        ("1 MB of parameters", f"GET {QUERY}?net={'A,' * 2**19} HTTP/1.1\r\n\r\n", {414}),
-        ("1 MB of headers", f"GET {QUERY} HTTP/1.1\r\n" + f"X: {'a' * 1000}\r\n" * 1000 + "\r\n", {0, 400}),
+    wide, window = "* * * * 1900-01-01 2100-01-01\n", "* * * 2024-01-01 2024-01-02\n"
+    codes = ["".join(two) for two in itertools.product("ABCDEFGHIJKLMNOPQRSTUVWXYZ0123456789", repeat=2)]
+    for name, content, status in [
+        ("1 MB of parameters", f"GET {QUERY}?net={'A,' * 2**19} HTTP/1.1\r\n\r\n", 414),
+        ("1 MB of headers", f"GET {QUERY} HTTP/1.1\r\n" + f"X: {'a' * 1000}\r\n" * 1000 + "\r\n", 431),
+        ("99 headers of 64 KB", f"GET {QUERY} HTTP/1.1\r\n" + f"X: {'a' * 64000}\r\n" * 99 + "\r\n", 431),
+        ("a header of 64 KB", f"GET {QUERY}?net=ZZ HTTP/1.1\r\nX: {'a' * 64000}\r\n\r\n", 204),
+        ("100 headers", f"GET {QUERY} HTTP/1.1\r\n" + "X: a\r\n" * 100 + "\r\n", 431),
+        ("an empty line", "\r\n\r\n", 400),
     ]:
-        yield holds(name, (reply := service.raw(content.encode())).status in wanted, reply.status)
-    for name, body, status in [("ten thousand lines", wide * 10000, 413), ("a thousand lines", wide * 1000, 200),
-                               ("a megabyte of one line", "a" * 2**20, 400), ("ten megabytes", "a" * 10**7, 413),
-                               ("four hundred lists", f"{lists} * * * 2024-01-01 2024-01-02\n" * 400, 204)]:
+        yield Fact(name, status, service.raw(content.encode()).status)
+    for name, body, status in [
+        ("ten thousand lines", wide * 10000, 413), ("a thousand lines", wide * 1000, 200),
+        ("a megabyte of one line", "a" * 2**20, 400), ("ten megabytes", "a" * 10**7, 413),
+        ("three hundred lists of a thousand", f"{','.join(codes[:1000])} {window}" * 300, 413),
+        ("two lists of five hundred", f"{','.join(codes[:500])} {window}{','.join(codes[500:1000])} {window}", 200),
+        ("a thousand channels, line by line", "".join(f"{code} {window}" for code in codes[:1000]), 200),
+        ("a megabyte of codes", f"{'ab,' * 340000}ab {window}", 413),
+        ("a megabyte of short lines", "ab\n" * 340000, 400), ("a megabyte of words", "ab " * 340000, 400),
+        ("a megabyte of empty lines", "\n" * 2**20, 400),
+    ]:
         yield Fact(f"a POST of {name}", status, service.post(body.encode()).status)
 
 
@@ -567,10 +696,14 @@ def rows() -> Cases:
         folder = Path(name)
         yield from rules(folder)
         yield from damaged(folder)
+        yield from no_log(folder)
         yield from failing(folder)
+        yield from half_closed(folder)
         yield from by_others(folder)
         yield from other_servers(folder)
         yield from against_extract(folder / "random")
         yield from clients(folder)
         yield from slow_to_ask(folder)
+        yield from crowded(folder)
+        yield from few_files(folder)
         yield from harm(folder)

@@ -16,11 +16,16 @@ import tempfile
 import threading
 from pathlib import Path
 from typing import Callable, Optional
+from unittest import mock
 
 from driver.program import PROGRAM, SAMPLES
 from driver.records import record
 from driver.rows import Cases, Fact, Result, Skipped, contents_of, holds, in_memory
 from driver.tools import TOOLS, as_others, losing, outcome, rest, tool, write_tree
+
+sys.path.insert(0, str(TOOLS))
+
+import mseed_tools.files  # noqa: E402
 
 # So long a tool may take that isn't to wait for anybody.
 SECONDS = 60
@@ -64,6 +69,21 @@ def links(folder: Path) -> Cases:
     yield Fact("files beside it stay", b"somebody's", neighbour.read_bytes() if neighbour.exists() else None)
     yield Fact("nothing that was begun is left", ["beyond.svg", "kept.svg", "link.svg", "made.svg", "target.svg",
                                                   "target.svg.new"], sorted(os.listdir(folder)))
+
+
+def on_disk(folder: Path) -> Cases:
+    """A file has its name only once its content is on the disk."""
+    calls: list[str] = []
+
+    def noted(name: str) -> Callable[..., None]:
+        call = getattr(os, name)
+        return lambda *words: (calls.append(name), call(*words))[1]
+
+    path = folder / "synced"
+    with mock.patch("os.fsync", noted("fsync")), mock.patch("os.replace", noted("replace")):
+        mseed_tools.files.write_whole(str(path), b"content")
+    yield Fact("what is called for a file that is written", (["fsync", "replace"], b"content"),
+               (calls, path.read_bytes()))
 
 
 def pipes(folder: Path) -> Cases:
@@ -271,7 +291,7 @@ def installed(folder: Path) -> Cases:
 
 def rows() -> Cases:
     """All of them."""
-    for some in (links, pipes, devices, kept_files, fifo_in_tree, unread_folders, wrong_roots, lost_parts, older,
-                 installed):
+    for some in (links, on_disk, pipes, devices, kept_files, fifo_in_tree, unread_folders, wrong_roots, lost_parts,
+                 older, installed):
         with tempfile.TemporaryDirectory() as name:
             yield from some(Path(name))

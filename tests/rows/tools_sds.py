@@ -367,6 +367,36 @@ def kills(folder: Path) -> Cases:
                    (outcome(tool("sds", *words, program=program.path)), program.audits()))
 
 
+# Says, where the verdict is written, whether another run could hold the folder then.
+WATCHED = """
+import fcntl, os, runpy, sys
+sys.path.insert(0, os.path.dirname(sys.argv[1]))
+from mseed_tools import verdict
+write_whole = verdict.write_whole
+def watched(path, content):
+    with open(os.path.join(os.path.dirname(path), "lock"), "ab") as file:
+        try:
+            fcntl.flock(file, fcntl.LOCK_EX | fcntl.LOCK_NB)
+            print("free", file=sys.stderr)
+        except OSError:
+            print("held", file=sys.stderr)
+    write_whole(path, content)
+verdict.write_whole = watched
+sys.argv = sys.argv[1:]
+runpy.run_path(sys.argv[0], run_name="__main__")
+"""
+
+
+def verdict_in_turn(folder: Path) -> Cases:
+    """What is said last is written while the folder is held, so that no run writes over what a later one has said."""
+    root, state = folder / "in_turn", folder / "in_turn_kept"
+    (root / "2024").mkdir(parents=True)
+    words = [sys.executable, "-c", WATCHED, str(TOOLS / "sds"), "--state", str(state), str(root)]
+    run = subprocess.run(words, env={**os.environ, "MSEED": str(PROGRAM)}, capture_output=True, text=True, check=False)
+    yield Fact("the folder while the verdict is written", (0, "held\n", True),
+               (run.returncode, run.stderr, (state / "verdict.txt").exists()))
+
+
 def changing(folder: Path) -> Cases:
     """A file that changes while it is read is reported, and nothing of it counts or is kept."""
     root = folder / "changing"
@@ -439,6 +469,7 @@ def rows() -> Cases:
         yield from small(folder)
         yield from sample(folder)
         yield from kills(folder)
+        yield from verdict_in_turn(folder)
         yield from changing(folder)
         yield from bar(folder)
         yield from trees_at_random(folder / "random", COUNT)

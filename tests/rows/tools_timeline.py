@@ -149,7 +149,7 @@ def short(minutes: int = 34, days: int = 31) -> Cases:
     """An overlap of some minutes in a month is seen, and the drawing says how to see more; closer, it has its width."""
     sys.path.insert(0, str(TOOLS))
     from mseed_tools.drawing import drawing
-    from mseed_tools.stretches import Mark, Row
+    from mseed_tools.segments import Mark, Row
     second = 10**6
     begin = 1714521600 * second
     at, end = begin + 13 * 86400 * second, begin + days * 86400 * second
@@ -171,7 +171,7 @@ def short(minutes: int = 34, days: int = 31) -> Cases:
 
 def made_up(count: int) -> Iterator[tuple]:
     """The rows of so many channels over ten years, some with many gaps."""
-    from mseed_tools.stretches import Mark, Row
+    from mseed_tools.segments import Mark, Row
     source, begin, length = Random(count), 1356998400 * 10**6, 3652 * 86400 * 10**6
     for number in range(count):
         ends = sorted(source.randrange(begin, begin + length) for _ in range(2 * source.choice([0, 1, 3, 300])))

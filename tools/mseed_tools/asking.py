@@ -4,10 +4,11 @@ from __future__ import annotations
 
 import datetime
 import itertools
+import math
 import re
 from typing import NamedTuple, Optional, Sequence
 
-from mseed_tools.instants import EPOCH, SECOND, instant_in
+from mseed_tools.instants import day_at, instant_in
 
 FIELD = re.compile(r"[A-Za-z0-9*?-]*", re.ASCII)
 # A request has so many patterns at most.
@@ -18,8 +19,8 @@ DAY = datetime.timedelta(days=1)
 
 def shown(text: str) -> str:
     """A text that was given as a message has it: short, and in characters that anybody may see."""
-    plain = "".join(character if " " <= character <= "~" else "?" for character in text)
-    return plain if len(plain) <= 60 else f"{plain[:57]}..."
+    plain = "".join(character if " " <= character <= "~" else "?" for character in text[:60])
+    return plain if len(text) <= 60 else f"{plain[:57]}..."
 
 
 class BadRequest(ValueError):
@@ -72,11 +73,6 @@ def expression(fields: Sequence[str]) -> str:
                     for field in fields)
 
 
-def day_at(instant: int) -> datetime.date:
-    """The day in which an instant lies."""
-    return EPOCH.date() + datetime.timedelta(days=instant // (86400 * SECOND))
-
-
 def requested(patterns: Sequence[str], begin: Optional[str], end: Optional[str]) -> Request:
     """A request, where it is one. Raises BadRequest where it isn't."""
     for pattern in patterns:
@@ -97,21 +93,20 @@ def requested(patterns: Sequence[str], begin: Optional[str], end: Optional[str])
 def crossed(columns: Sequence[str]) -> list[str]:
     """The patterns of four columns, in each of which some may stand, with commas between. Raises BadRequest where one
     is empty, and TooMany where they are more than are taken."""
+    count = math.prod(column.count(",") + 1 for column in columns)
+    if count > MOST_PATTERNS:
+        raise TooMany(f"{count} patterns of channels, and {MOST_PATTERNS} are taken at once")
     fields = [column.split(",") for column in columns]
     for field in itertools.chain(*fields):
         if not field or not FIELD.fullmatch(field):
             raise BadRequest(f"{shown(field)}: no code of letters, digits, *, ? and -; -- is an empty location")
-    count = 1
-    for some in fields:
-        count *= len(some)
-    if count > MOST_PATTERNS:
-        raise TooMany(f"{count} patterns of channels, and {MOST_PATTERNS} are taken at once")
     return ["_".join(these) for these in itertools.product(*fields)]
 
 
 def in_line(line: str) -> Request:
     """The request of a line of six columns. Raises BadRequest where it is none."""
-    columns = line.split()
+    columns = line.split(maxsplit=6)
     if len(columns) != 6:
-        raise BadRequest(f"{len(columns)} columns, and {COLUMNS} are wanted")
+        count = "more than 6" if len(columns) > 6 else len(columns)
+        raise BadRequest(f"{count} columns, and {COLUMNS} are wanted")
     return requested(crossed(columns[:4]), *columns[4:])

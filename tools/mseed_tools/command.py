@@ -56,7 +56,7 @@ class Parser(argparse.ArgumentParser):
     def add_tree_options(self) -> None:
         """The options of tools that read a tree."""
         self.add_argument("-j", "--jobs", type=a_count, default=os.cpu_count() or 1, metavar="N",
-                          help="files that are read at once; as many as there are cores, where no number is given")
+                          help="how many files are read at once; by default as many as there are cores")
         self.add_argument("--state", metavar="FOLDER",
                           help="keeps here what was read of each file, outside of ROOT, and reads what is new")
 
@@ -69,6 +69,13 @@ def stopped(number: int, _: object) -> NoReturn:
 def write(text: str) -> None:
     """Writes to standard output; names of files as the bytes that they are."""
     sys.stdout.buffer.write(text.encode("utf-8", "surrogateescape"))
+
+
+def tell(line: str) -> None:
+    """Writes a line to standard error, at once, so that no other thread's comes within it. What isn't UTF-8 of a file's
+    name is replaced."""
+    sys.stderr.write(line.encode("utf-8", "surrogateescape").decode("utf-8", "replace") + "\n")
+    sys.stderr.flush()
 
 
 def run(main: Callable[[], int]) -> int:

@@ -7,11 +7,10 @@ import os
 from fractions import Fraction
 from typing import Iterable, Iterator, NamedTuple, Optional, Sequence, Union
 
-from mseed_tools.instants import EPOCH, SECOND, micros_of
+from mseed_tools.instants import DAY, EPOCH, SECOND, day_at, micros_of
 from mseed_tools.program import Program
 from mseed_tools.texts import CHANNEL, STEPS, Found, Kept, Shown, shown_in
 
-DAY = 86400 * SECOND
 # The years in which the program takes a day, and the one after it, as times.
 YEARS = range(1900, 2100)
 # What is found of a record of which the record before it says where it is due.
@@ -71,11 +70,6 @@ def lasting(samples: int, rate: Optional[Fraction]) -> Micros:
         return 0
     whole, rest = divmod(samples * rate.denominator * SECOND, rate.numerator)
     return whole + Fraction(rest, rate.numerator) if rest else whole
-
-
-def day_at(instant: int) -> datetime.date:
-    """The day of an instant."""
-    return EPOCH.date() + datetime.timedelta(days=instant // DAY)
 
 
 def merged(spans: Iterable[Span]) -> list[Span]:

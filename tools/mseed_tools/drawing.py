@@ -9,7 +9,7 @@ from html import escape
 from typing import Iterator, NamedTuple, Optional, Sequence, Tuple
 
 from mseed_tools.instants import EPOCH, SECOND, time_of
-from mseed_tools.stretches import Mark, Row
+from mseed_tools.segments import Mark, Row
 
 WIDTH, ROW, BAR, HEAD, EDGE = 1120, 18, 10, 74, 18
 # After so many rows the labels of the axis come again, in a row of their own.
@@ -108,19 +108,19 @@ def box(kind: str, left: float, top: float, width: float, height: float, text: s
 
 
 def bars_of(row: Row, scale: Scale, top: float) -> Iterator[str]:
-    """The stretches of a row. Those with nothing between that can be seen are one bar."""
-    spans = sorted((scale.at(begin), scale.at(end)) for begin, end in row.stretches)
-    begins = [begin for begin, _ in row.stretches]
+    """The segments of a row. Those with nothing between that can be seen are one bar."""
+    spans = sorted((scale.at(begin), scale.at(end)) for begin, end in row.segments)
+    begins = [begin for begin, _ in row.segments]
     for left, right, count in merged(spans, 0.25):
         place = bisect.bisect_left(spans, (left, left))
-        first, last = begins[place], max(end for _, end in row.stretches[place : place + count])
+        first, last = begins[place], max(end for _, end in row.segments[place : place + count])
         text = f"{row.name} from {time_of(first)} to {time_of(last)}"
         yield box(row.state, left, top, max(right - left, 1.0), BAR, text, count)
 
 
 def marks_of(row: Row, scale: Scale, top: float, is_above: bool) -> Iterator[str]:
     """The marks of a row that lie above the bars, or those below: gaps that can be seen as such, since there may be
-    records of later stretches in their place. Overlaps stand at the upper edge, other findings at the lower one."""
+    records of later segments in their place. Overlaps stand at the upper edge, other findings at the lower one."""
     for kind, (down, height, least) in MARKS.items():
         marks: list[Mark] = [mark for mark in row.marks if mark.kind == kind and is_above != is_long(mark, scale)]
         spans = [wide(scale.at(mark.begin), scale.at(mark.end), least) for mark in marks]
@@ -176,9 +176,9 @@ def axis(scale: Scale, count: int) -> Iterator[str]:
 
 
 def scale_of(rows: Sequence[Row], left: float, window: Window) -> Scale:
-    """From the first instant to the last one of all stretches, where the window names no other; a second at least."""
-    begins = [begin for row in rows for begin, _ in row.stretches]
-    ends = [end for row in rows for _, end in row.stretches]
+    """From the first instant to the last one of all segments, where the window names no other; a second at least."""
+    begins = [begin for row in rows for begin, _ in row.segments]
+    ends = [end for row in rows for _, end in row.segments]
     begin, end = (min(begins), max(ends)) if begins else (0, DAY * SECOND)
     if window[1] is not None:
         begin, end = min(begin, window[1] - SECOND), window[1]

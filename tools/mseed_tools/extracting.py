@@ -139,9 +139,13 @@ class Extraction:
             self.written.popitem(last=False)
 
     def places(self, number: int, path: str) -> Iterator[tuple[int, int]]:
-        """Where the records of a file stand that a request asks for."""
+        """Where the records of a file stand that a request asks for; nowhere where it can't be read, of which the
+        request that came to it first has told."""
         selection = self.selection(number, "show", path)
         try:
-            yield from selection.places()
+            if selection.problem is None:
+                yield from selection.places(self.is_gone)
+            else:
+                self.is_faulty = True
         finally:
             selection.close()

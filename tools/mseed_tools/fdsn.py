@@ -3,28 +3,32 @@
 from __future__ import annotations
 
 import datetime
+import io
 import re
 from fractions import Fraction
 from typing import Callable, NamedTuple, Optional
 from urllib.parse import unquote_to_bytes
 
-from mseed_tools.asking import COLUMNS, BadRequest, Request, TooMany, crossed, in_line, requested, shown
+from mseed_tools.asking import (COLUMNS, MOST_PATTERNS, BadRequest, Request, TooMany, crossed, in_line, requested,
+                                shown)
 
 VERSION = "1.1.0"
 BASE = "/fdsnws/dataselect/1/"
 MINISEED, PLAIN, XML = "application/vnd.fdsn.mseed", "text/plain; charset=utf-8", "application/xml; charset=utf-8"
 # The bytes of an address' parameters and of a body, the lines of a body, and the characters of a code, at most.
 MOST_QUERY, MOST_BODY, MOST_LINES, MOST_CODE = 2**16, 2**20, 1000, 64
+LONG_CODE = re.compile(rf"[^,]{{{MOST_CODE + 1},}}")
 SHORT = {"start": "starttime", "end": "endtime", "net": "network", "sta": "station", "loc": "location",
          "cha": "channel"}
 CODES = ("network", "station", "location", "channel")
 NUMBER = re.compile(r"[0-9]{1,9}(?:\.[0-9]{0,9})?", re.ASCII)
 REASONS = {200: "OK", 204: "No Content", 400: "Bad Request", 404: "Not Found", 405: "Method Not Allowed",
-           413: "Request Entity Too Large", 414: "Request-URI Too Long", 500: "Internal Server Error",
-           503: "Service Unavailable"}
+           413: "Request Entity Too Large", 414: "Request-URI Too Long", 431: "Request Header Fields Too Large",
+           500: "Internal Server Error", 503: "Service Unavailable"}
 # What FDSN's table of statuses says in a few words.
 SHORT_TEXTS = {400: "Bad request", 404: "Not found", 405: "Method not allowed", 413: "Request too large",
-               414: "Request URI too large", 500: "Internal server error", 503: "Service temporarily unavailable"}
+               414: "Request URI too large", 431: "Request headers too large", 500: "Internal server error",
+               503: "Service temporarily unavailable"}
 
 
 class Refused(Exception):
@@ -157,9 +161,9 @@ def of_query(query: str) -> Wanted:
 
 def check_lengths(column: str) -> None:
     """Raises Refused where a code is longer than any is."""
-    for code in column.split(","):
-        if len(code) > MOST_CODE:
-            raise Refused(400, f"{shown(code)}: a code of {len(code)} characters")
+    long = LONG_CODE.search(column)
+    if long:
+        raise Refused(400, f"{shown(long[0])}: a code of {len(long[0])} characters")
 
 
 def of_bad(error: BadRequest, before: str = "") -> Refused:
@@ -169,13 +173,13 @@ def of_bad(error: BadRequest, before: str = "") -> Refused:
 
 def of_body(body: bytes) -> Wanted:
     """What the body of a POST asks for: parameters, a line each, and then requests. Raises Refused where it is none."""
-    try:
-        lines = body.decode("ascii").splitlines()
-    except UnicodeError:
-        raise Refused(400, "the body isn't in ASCII") from None
+    if not body.isascii():
+        raise Refused(400, "the body isn't in ASCII")
     values: dict[str, str] = {}
     requests: list[Request] = []
-    for number, line in enumerate(lines, 1):
+    patterns = 0
+    # Line by line, since a list of all lines may take many times as much as the body.
+    for number, line in enumerate(io.TextIOWrapper(io.BytesIO(body), "ascii"), 1):
         if "=" in line and not requests:
             name, _, value = (part.strip() for part in line.partition("="))
             if name not in OTHERS:
@@ -186,6 +190,9 @@ def of_body(body: bytes) -> Wanted:
             if len(requests) == MOST_LINES:
                 raise Refused(413, f"more than {MOST_LINES} lines of channels and times")
             requests.append(of_line(number, line))
+            patterns += len(requests[-1].patterns)
+            if patterns > MOST_PATTERNS:
+                raise Refused(413, f"more than {MOST_PATTERNS} patterns of channels in all lines")
     if not requests:
         raise Refused(400, f"no line {COLUMNS}")
     return wanted_by(requests, values)
@@ -193,7 +200,7 @@ def of_body(body: bytes) -> Wanted:
 
 def of_line(number: int, line: str) -> Request:
     """What a line of a body asks for."""
-    for column in line.split()[:4]:
+    for column in line.split(maxsplit=4)[:4]:
         check_lengths(column)
     try:
         return in_line(line)

@@ -70,7 +70,8 @@ def status_of(path: str) -> Optional[os.stat_result]:
 
 
 def replace(path: str, content: bytes, before: Optional[os.stat_result]) -> None:
-    """Puts a file with this content, and with the owner and the rights of the one before, in its place."""
+    """Puts a file with this content, and with the owner and the rights of the one before, in its place. The content is
+    on the disk before the file has its name."""
     begun = os.path.join(os.path.dirname(path), f".{os.urandom(8).hex()}{BEGUN}")
     try:
         with open(begun, "xb") as file:
@@ -79,6 +80,8 @@ def replace(path: str, content: bytes, before: Optional[os.stat_result]) -> None
                     os.fchown(file.fileno(), before.st_uid, before.st_gid)
                 os.fchmod(file.fileno(), stat.S_IMODE(before.st_mode))
             file.write(content)
+            file.flush()
+            os.fsync(file.fileno())
         os.replace(begun, path)
     except BaseException:
         with contextlib.suppress(FileNotFoundError):

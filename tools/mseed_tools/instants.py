@@ -6,7 +6,7 @@ import datetime
 import re
 from typing import Optional
 
-SECOND = 10**6
+SECOND, DAY = 10**6, 86400 * 10**6
 EPOCH = datetime.datetime(1970, 1, 1)
 INSTANT = re.compile(r"(?P<year>\d{4})-(?:(?P<month>\d\d)-(?P<date>\d\d)|(?P<day>\d{3}))"
                      r"(?:T(?P<hour>\d\d)(?::(?P<minute>\d\d)(?::(?P<second>\d\d)(?:\.(?P<rest>\d{1,6}))?)?)?)?Z?",
@@ -27,6 +27,11 @@ def micros_of(time: str) -> Optional[int]:
         return None
     seconds, _, rest = time.partition(".")
     return (datetime.datetime.fromisoformat(seconds) - EPOCH) // datetime.timedelta(seconds=1) * SECOND + int(rest)
+
+
+def day_at(instant: int) -> datetime.date:
+    """The day in which an instant lies."""
+    return EPOCH.date() + datetime.timedelta(days=instant // DAY)
 
 
 def instant_in(word: str) -> int:

@@ -8,11 +8,11 @@ import re
 from typing import Iterator, NamedTuple, Optional, Sequence
 
 from mseed_tools.program import Program, ToolError
-from mseed_tools.seeking import next_candidate
+from mseed_tools.seeking import ENDS, next_candidate
+from mseed_tools.texts import shown_by
 
 NO_TIME = "fault"
-# A line of `show`: the offset, the name, and the start, which is a time of 26 characters, or says that there is none.
-LINE = re.compile(r"(\d+) (\S+) . length \d+ samples \d+ start (fault \w+|.{26}) .*\n")
+LINE = shown_by("offset", "name", "start")
 END = re.compile(r"records (\d+)\n(?:fault at (\d+) (.+)\n)?")
 
 
@@ -59,7 +59,7 @@ def pieces_of(program: Program, file: int, size: int) -> Iterator[tuple[int, Jud
         piece = judgement_in(program.run(["show"], file).out, size - at)
         if at == 0 or piece.names:
             yield at, piece
-        if piece.fault in (None, "read", "turns"):
+        if piece.fault in (None, *ENDS):
             return
         at = next_candidate(file, at + piece.end, size)
 

@@ -1,23 +1,27 @@
-"""What a dataselect service takes away of the records of a channel: those of other qualities, and stretches that are
+"""What a dataselect service takes away of the records of a channel: those of other qualities, and segments that are
 shorter than they are wanted."""
 
 from __future__ import annotations
 
+import contextlib
 import os
 import re
 import tempfile
 from fractions import Fraction
-from typing import IO, Iterable, Iterator, NamedTuple, Optional
+from typing import IO, Callable, Iterable, Iterator, NamedTuple, Optional, Sequence
 
 from mseed_tools.instants import SECOND, micros_of
 from mseed_tools.program import Program
 from mseed_tools.selecting import PIPE, Run
 from mseed_tools.spans import Span, joined
-from mseed_tools.texts import FOUND
+from mseed_tools.texts import FOUND, shown_by
 
-SHOWN = re.compile(r"(\d+) (\S+) (.) length (\d+) samples (\d+) start (fault \w+|\S+) rate (none|(\d+)/(\d+)) ")
+SHOWN = shown_by("offset", "name", "quality", "length", "samples", "start", "num", "den")
 # What is found of a record's samples: where it stands in time is known all the same.
 OF_SAMPLES = ("blockette100", "encoding", "littlesteim", "dataoffset", "short", "badword", "overflow", "lastdiffers")
+
+# What says whether whoever asked has gone, where that can be known.
+IsGone = Optional[Callable[[], bool]]
 
 
 class Record(NamedTuple):
@@ -32,7 +36,7 @@ class Record(NamedTuple):
     period: Fraction
 
 
-class Stretch:
+class Segment:
     """Records that go on with one another."""
 
     def __init__(self, record: Record):
@@ -57,56 +61,62 @@ class Stretch:
 
 def record_of(found: re.Match[str]) -> Record:
     """A record, by the line that shows it."""
-    at, begin = int(found[1]), micros_of(found[6])
-    period = Fraction(SECOND * int(found[9]), int(found[8])) if found[8] else Fraction(0)
-    return Record((at, at + int(found[4])), found[2], found[3], begin, (begin or 0) + int(found[5]) * period, period)
+    at, begin = int(found["offset"]), micros_of(found["start"])
+    period = Fraction(SECOND * int(found["den"]), int(found["num"])) if found["num"] else Fraction(0)
+    end = (begin or 0) + int(found["samples"]) * period
+    return Record((at, at + int(found["length"])), found["name"], found["quality"], begin, end, period)
 
 
-def records(program: Program, path: str) -> Iterator[tuple[Record, str]]:
-    """Each record of an archive, with what an audit finds of it, if anything."""
-    show, audit = Run(program, ["show", path], None), Run(program, ["audit", "--each", path], None)
-    try:
-        findings = filter(None, map(FOUND.fullmatch, audit.lines()))
+def records(program: Program, path: str, is_gone: IsGone) -> Iterator[tuple[Record, str]]:
+    """Each record of an archive, with what an audit finds of it, if anything. Raises Gone where nobody waits for that
+    any more."""
+    with contextlib.ExitStack() as runs:
+        show, audit = (begun(program, words, runs) for words in (["show", path], ["audit", "--each", path]))
+        findings = filter(None, map(FOUND.fullmatch, audit.lines(is_gone)))
         next_found = next(findings, None)
-        for line in show.lines():
-            found = SHOWN.match(line)
+        for line in show.lines(is_gone):
+            found = SHOWN.fullmatch(line)
             if found is None:
                 continue
             why = ""
-            if next_found is not None and next_found[1] == found[1]:
+            if next_found is not None and next_found[1] == found["offset"]:
                 why, next_found = next_found[5], next(findings, None)
             yield record_of(found), why
-    finally:
-        show.stop()
-        audit.stop()
 
 
-def of_quality(program: Program, path: str, quality: str) -> Iterator[Span]:
+def begun(program: Program, words: Sequence[str], runs: contextlib.ExitStack) -> Run:
+    """A run of the program, which is stopped with these. Raises what `Run` does."""
+    run = Run(program, words, None)
+    runs.callback(run.stop)
+    return run
+
+
+def of_quality(program: Program, path: str, quality: str, is_gone: IsGone) -> Iterator[Span]:
     """Where the records of a quality stand."""
-    return (record.span for record, _ in records(program, path) if record.quality == quality)
+    return (record.span for record, _ in records(program, path, is_gone) if record.quality == quality)
 
 
-def long_ones(program: Program, path: str, minimum: Fraction, is_longest: bool) -> Iterator[Span]:
-    """Where the records stand of stretches that last so many seconds, or of the longest one of each channel alone."""
-    stretches: list[Stretch] = []
+def long_ones(program: Program, path: str, minimum: Fraction, is_longest: bool, is_gone: IsGone) -> Iterator[Span]:
+    """Where the records stand of segments that last so many seconds, or of the longest one of each channel alone."""
+    segments: list[Segment] = []
     going: dict[str, int] = {}
     places: list[tuple[Span, int]] = []
-    for record, why in records(program, path):
+    for record, why in records(program, path, is_gone):
         number = going.get(record.name, -1)
-        if number < 0 or not stretches[number].goes_on(record, why):
-            number = going[record.name] = len(stretches)
-            stretches.append(Stretch(record))
-        stretches[number].add(record)
+        if number < 0 or not segments[number].goes_on(record, why):
+            number = going[record.name] = len(segments)
+            segments.append(Segment(record))
+        segments[number].add(record)
         if places and places[-1][1] == number and places[-1][0][1] == record.span[0]:
             places[-1] = (places[-1][0][0], record.span[1]), number
         else:
             places.append((record.span, number))
-    kept = {number for number, stretch in enumerate(stretches) if stretch.length >= minimum * SECOND}
+    kept = {number for number, segment in enumerate(segments) if segment.length >= minimum * SECOND}
     if is_longest:
         longest: dict[str, int] = {}
         for number in sorted(kept):
-            name = stretches[number].record.name
-            if name not in longest or stretches[number].length > stretches[longest[name]].length:
+            name = segments[number].record.name
+            if name not in longest or segments[number].length > segments[longest[name]].length:
                 longest[name] = number
         kept = set(longest.values())
     return (span for span, number in places if number in kept)
@@ -132,14 +142,15 @@ def copied(file: IO[bytes], spans: Iterable[Span]) -> Iterator[bytes]:
 
 
 def filtered(program: Program, chunks: Iterable[bytes], quality: Optional[str], minimum: Fraction,
-             is_longest: bool) -> Iterator[bytes]:
-    """The records of a channel of which nothing is taken away. They are laid down in a file meanwhile."""
+             is_longest: bool, is_gone: IsGone) -> Iterator[bytes]:
+    """The records of a channel of which nothing is taken away. They are laid down in a file meanwhile. Raises Gone
+    where nobody waits for them any more."""
     with spooled(chunks) as file:
         if quality is not None:
-            chunks = copied(file, of_quality(program, file.name, quality))
+            chunks = copied(file, of_quality(program, file.name, quality, is_gone))
             if minimum <= 0 and not is_longest:
                 yield from chunks
                 return
-            yield from filtered(program, chunks, None, minimum, is_longest)
+            yield from filtered(program, chunks, None, minimum, is_longest, is_gone)
             return
-        yield from copied(file, long_ones(program, file.name, minimum, is_longest))
+        yield from copied(file, long_ones(program, file.name, minimum, is_longest, is_gone))

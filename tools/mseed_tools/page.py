@@ -23,10 +23,10 @@ MOST_ROWS = 200
 FIELDS = (("network", "Network", "IU or IU,XX"), ("station", "Station", "ANMO or A*"),
           ("location", "Location", "00, or -- for none"), ("channel", "Channel", "BH?"),
           ("starttime", "From", "2024-05-14T03:20:00"), ("endtime", "Until", "2024-05-14T04:00:00"),
-          ("minimumlength", "Shortest stretch, in seconds", "0"))
+          ("minimumlength", "Shortest segment, in seconds", "0"))
 # Of each choice what stands for nothing that is asked for, and the values.
 CHOICES = (("quality", "Quality", "any", ("D", "R", "Q", "M")),
-           ("longestonly", "Longest stretch alone", "no", ("true",)),
+           ("longestonly", "Longest segment alone", "no", ("true",)),
            ("nodata", "Status without data", "204", ("404",)))
 STYLE = """\
 :root { color-scheme: light; }

@@ -13,6 +13,8 @@ BUILT = os.path.join(ABOVE, "crates", "mseed", "out", "mseed")
 INSTALLED = "/lib/mseed/tools/mseed_tools/program.py"
 # So many bytes of what a run wrote are kept as room for the next one.
 MOST_KEPT = 2**24
+# What a run reports last whose memory or output failed.
+FAILED = ("mseed: no memory\n", "mseed: write failed\n")
 
 
 class ToolError(Exception):
@@ -62,6 +64,11 @@ def written(file: IO[bytes]) -> bytes:
     return content
 
 
+def has_failed(status: int, told: str) -> bool:
+    """Whether a run that ended so, and reported this, was killed, or its memory or output failed."""
+    return status not in (0, 1, 2) or told.endswith(FAILED)
+
+
 class Program:
     """A program, which threads may run side by side."""
 
@@ -84,7 +91,7 @@ class Program:
             raise ToolError(f"{self.path}: {error.strerror}") from error
         status = os.waitstatus_to_exitcode(os.waitpid(process, 0)[1])
         done = Done(status, *(written(file).decode("utf-8", "replace") for file in (out, err)))
-        if status < 0 or status > 2 or done.err in ("mseed: no memory\n", "mseed: write failed\n"):
+        if has_failed(status, done.err):
             first, _, _ = done.err.strip().partition("\n")
             raise ToolError(f"{self.path} {' '.join(arguments)}: status {status}, {first}")
         return done

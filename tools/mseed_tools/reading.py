@@ -9,7 +9,7 @@ from typing import Iterator, NamedTuple, Optional
 from mseed_tools.covering import Covered, Listing, OwnPiece, covered_by
 from mseed_tools.files import opened
 from mseed_tools.program import Program, ToolError
-from mseed_tools.seeking import Fault, next_candidate
+from mseed_tools.seeking import ENDS, Fault, next_candidate
 from mseed_tools.texts import Found, Part, Shown, found_in, name_of, part_in, parted, shown_in
 from mseed_tools.tree import DayFile
 
@@ -84,7 +84,7 @@ def read_pieces(program: Program, file: int, size: int) -> tuple[list[Piece], li
             if piece.part.fault is None:
                 return pieces, faults
             ended = after, piece.part.fault
-            if piece.part.fault in ("read", "turns"):
+            if piece.part.fault in ENDS:
                 return pieces, [*faults, Fault(*ended, 0)]
         at = next_candidate(file, after, size)
     return pieces, [*faults, Fault(*ended, size - ended[0])]
@@ -116,7 +116,7 @@ def read_file(program: Program, path: str, place: Optional[DayFile] = None) -> R
         raise ToolError(f"{path}: a text that is none of mseed's: {error}") from error
     held = sum(piece.part.bytes for piece in pieces) + sum(fault.skipped for fault in faults)
     is_same = stamp_of(status) == stamp_of(after) and (status.st_ino, status.st_dev) == (after.st_ino, after.st_dev)
-    is_whole = held == status.st_size or any(fault.why in ("read", "turns") for fault in faults)
+    is_whole = held == status.st_size or any(fault.why in ENDS for fault in faults)
     if not is_same or not is_whole:
         return unread("changed", after.st_size)
     return Reading(stamp_of(status), pieces, faults, None, stamp_of(status).is_old(now), covered)

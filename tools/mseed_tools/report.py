@@ -20,6 +20,7 @@ from mseed_tools.running import Bar, in_order
 from mseed_tools.state import State
 from mseed_tools.texts import Found, name_of
 from mseed_tools.tree import DayFile, Tree, days_in_words, missing_between, tree_at
+from mseed_tools.verdict import keep
 
 NOTHING = ("records 0 samples 0 from none to none gaps 0 0.000000 s absent 0.000000 s overlaps 0 0.000000 s "
            "findings 0")
@@ -116,10 +117,16 @@ def size_of(tree: Tree, file: DayFile) -> int:
 
 
 def audited(root: str, jobs: int, state: Optional[str]) -> Audit:
-    """Audits a tree."""
+    """Audits a tree. Where a folder keeps what was read, it keeps what is said too, before another run may hold it.
+    Raises ToolError where it can't, or another run holds it."""
     program = find()
     tree = tree_at(root)
-    return Audit(tree, list(reports_of(program, tree, jobs, State(state, root, program.identity()))))
+    kept = State(state, root, program.identity())
+    audit = Audit(tree, list(reports_of(program, tree, jobs, kept)))
+    if state is not None:
+        keep(state, summary_of(audit), status_of(audit))
+    kept.release()
+    return audit
 
 
 def line_of(report: ChannelReport) -> str:

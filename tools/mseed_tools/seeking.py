@@ -8,6 +8,8 @@ from typing import NamedTuple
 STEP = 64
 CHUNK = 2**20
 NUMBERS, QUALITIES, RESERVED = b"0123456789 \0", b"DRQM", b" \0"
+# Faults after which reading doesn't go on.
+ENDS = ("read", "turns")
 
 
 class Fault(NamedTuple):

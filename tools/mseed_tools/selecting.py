@@ -11,8 +11,9 @@ import signal
 from typing import IO, Callable, Iterator, Optional, Sequence
 
 from mseed_tools.files import opened
-from mseed_tools.program import Program, ToolError, scratch
-from mseed_tools.seeking import Fault, next_candidate
+from mseed_tools.program import Program, ToolError, has_failed, scratch
+from mseed_tools.seeking import ENDS, Fault, next_candidate
+from mseed_tools.texts import shown_by
 
 # So many bytes are taken at once, where a pipe holds as many, and of a pipe as it comes.
 AT_ONCE, PIPE = 2**20, 2**16
@@ -20,13 +21,10 @@ AT_ONCE, PIPE = 2**20, 2**16
 F_SETPIPE_SZ = 1031
 # Milliseconds between two looks at whether anybody still waits for the output.
 PAUSE = 250
-FAILED = ("mseed: no memory\n", "mseed: write failed\n")
 FAULT = re.compile(r"^(?:mseed: )?fault at (\d+) (.+)$", re.MULTILINE)
-PLACE = re.compile(r"(\d+) \S+ . length (\d+) ")
+PLACE = shown_by("offset", "length")
 # What each run is begun with, as it is handed over.
 ENVIRONMENT = dict(os.environb)
-# Faults after which reading doesn't go on.
-ENDS = ("read", "turns")
 WITHOUT_TIME = re.compile(r"^mseed: (\d+) records without a time$", re.MULTILINE)
 
 
@@ -35,12 +33,17 @@ class Gone(Exception):
 
 
 class Run:
-    """A run of the program, from where a descriptor stands on. It is ended with `stop`, wherever it is."""
+    """A run of the program, from where a descriptor stands on. It is ended with `stop`, wherever it is. Raises
+    ToolError where the program can't be run, and OSError where no more files can be open."""
 
     def __init__(self, program: Program, words: Sequence[str], source: Optional[int], size: int = PIPE):
         self.name, self.is_done, self.status, self.told, self.last = f"{program.path} {words[0]}", False, 0, "", ""
-        self.out, far = os.pipe()
         self.err: IO[bytes] = scratch()
+        try:
+            self.out, far = os.pipe()
+        except OSError:
+            self.err.close()
+            raise
         if size > PIPE:
             with contextlib.suppress(OSError):
                 fcntl.fcntl(self.out, F_SETPIPE_SZ, size)
@@ -69,14 +72,14 @@ class Run:
                 break
             yield chunk
         self.end()
-        if self.status not in (0, 1, 2) or self.told.endswith(FAILED):
+        if has_failed(self.status, self.told):
             first, _, _ = self.told.partition("\n")
             raise ToolError(f"{self.name}: status {self.status}, {first}")
 
-    def lines(self) -> Iterator[str]:
-        """The lines that it writes."""
+    def lines(self, is_gone: Optional[Callable[[], bool]] = None) -> Iterator[str]:
+        """The lines that it writes. Raises what `chunks` does."""
         rest = b""
-        for chunk in self.chunks(PIPE):
+        for chunk in self.chunks(PIPE, is_gone):
             *lines, rest = (rest + chunk).split(b"\n")
             for line in lines:
                 self.last = line.decode("ascii", "replace")
@@ -148,18 +151,19 @@ class Selection:
             self.faults.append(Fault(*ended, 0 if ended[1] in ENDS else max(0, length - ended[0])))
 
     def chunks(self, is_gone: Optional[Callable[[], bool]] = None) -> Iterator[bytes]:
-        """What is selected."""
+        """What is selected. Raises what `chunks` of a run does."""
         for _, run in self.runs():
             yield from run.chunks(self.size, is_gone)
             self.without_time += sum(int(count) for count in WITHOUT_TIME.findall(run.told))
 
-    def places(self) -> Iterator[tuple[int, int]]:
-        """From where to where in the file each record stands that is shown."""
+    def places(self, is_gone: Optional[Callable[[], bool]] = None) -> Iterator[tuple[int, int]]:
+        """From where to where in the file each record stands that is shown. Raises what `chunks` of a run does."""
         for at, run in self.runs():
-            for line in run.lines():
-                found = PLACE.match(line)
+            for line in run.lines(is_gone):
+                found = PLACE.fullmatch(line)
                 if found:
-                    yield at + int(found[1]), at + int(found[1]) + int(found[2])
+                    begin = at + int(found["offset"])
+                    yield begin, begin + int(found["length"])
 
     def close(self) -> None:
         """Ends what still runs."""

@@ -7,11 +7,11 @@ import os
 import re
 import select
 import socket
-import sys
 from typing import Any, Callable, Generator, Iterable, NamedTuple, Optional, Union
 from wsgiref.util import request_uri
 
 from mseed_tools.asking import shown
+from mseed_tools.command import tell
 from mseed_tools.extracting import Extraction
 from mseed_tools.fdsn import (BASE, MINISEED, MOST_BODY, PLAIN, REASONS, VERSION, XML, Refused, Wanted, error_text,
                               of_body, of_query)
@@ -31,7 +31,8 @@ IS_GONE = "mseed.is_gone"
 
 
 class Body:
-    """The records of an answer, of which the first have come. Where it is closed, nothing is selected any more."""
+    """The records of an answer, of which the first have come. Where it is closed, nothing is selected any more. Raises
+    Gone where the client has gone meanwhile."""
 
     def __init__(self, first: bytes, chunks: Generator[bytes, None, None]):
         self.first, self.chunks = first, chunks
@@ -43,10 +44,7 @@ class Body:
         if self.first:
             first, self.first = self.first, b""
             return first
-        try:
-            return next(self.chunks)
-        except Gone:
-            raise StopIteration from None
+        return next(self.chunks)
 
     def close(self) -> None:
         """Ends what is selected."""
@@ -63,9 +61,9 @@ class Answer(NamedTuple):
 
 
 def told(line: str) -> None:
-    """Reports a line, on standard error, at once, so that no other thread's comes within it."""
-    sys.stderr.write(line.encode("utf-8", "surrogateescape").decode("utf-8", "replace") + "\n")
-    sys.stderr.flush()
+    """Reports a line on standard error. Where that can't be written, answers go on without it."""
+    with contextlib.suppress(OSError):
+        tell(line)
 
 
 def has_left(connection: socket.socket) -> bool:
@@ -79,7 +77,8 @@ def has_left(connection: socket.socket) -> bool:
 
 
 class Service:
-    """The application. Requests may come side by side."""
+    """The application. Requests may come side by side. It raises Gone where the client has gone before the answer: the
+    server then cuts the connection, and sends no status."""
 
     def __init__(self, root: Union[str, "os.PathLike[str]"], *, limit: int = LIMIT, state: Optional[str] = None,
                  program: Optional[Program] = None, tell: Callable[[str], None] = told):
@@ -95,7 +94,8 @@ class Service:
         except Refused as refused:
             answer = self.refusal(environ, refused)
         except Gone:
-            answer = Answer(204)
+            # Whoever closed its half of the connection may still read: the server ends it without an answer.
+            raise
         except Exception as error:
             self.tell(f"{type(error).__name__}: {error}")
             answer = self.refusal(environ, Refused(500, "the request could not be carried out"))
@@ -179,7 +179,7 @@ class Service:
             yield from extraction.chunks()
             return
         for chunks in extraction.channels():
-            yield from filtered(self.program, chunks, wanted.quality, wanted.minimum, wanted.is_longest)
+            yield from filtered(self.program, chunks, wanted.quality, wanted.minimum, wanted.is_longest, is_gone)
 
 
 def allow(environ: Environ, *methods: str) -> None:

@@ -4,6 +4,7 @@ from __future__ import annotations
 
 import contextlib
 import functools
+import http.client
 import io
 import socket
 import socketserver
@@ -11,11 +12,11 @@ import struct
 import sys
 import threading
 import time
-from typing import Any, Callable, Optional
+from typing import Any, BinaryIO, Callable, Optional
 from wsgiref.simple_server import ServerHandler, WSGIRequestHandler, WSGIServer
 
 from mseed_tools.asking import shown
-from mseed_tools.fdsn import PLAIN, REASONS, Refused, error_text
+from mseed_tools.fdsn import PLAIN, REASONS, error_text
 from mseed_tools.files import open_at_once
 from mseed_tools.selecting import Gone
 from mseed_tools.service import IS_GONE, Service, has_left, told
@@ -24,7 +25,8 @@ from mseed_tools.service import IS_GONE, Service, has_left, told
 MOST_CLIENTS, MOST_FILES = 128, 8192
 # Seconds that a client may take for its request, for what it reads at once, and to read the end of an answer.
 TO_ASK, TO_READ, TO_LEAVE = 30, 600, 2
-MOST_LINE = 2**16
+# The bytes of a request's first line, and those of its headers, all together.
+MOST_LINE, MOST_HEADERS = 2**16, 2**16
 # What is left of a body that was too long is read so far, so that the answer is read too.
 MOST_LEFT = 2**24
 
@@ -53,6 +55,22 @@ class Asking(io.RawIOBase):
             return self.connection.recv_into(buffer)
         finally:
             self.connection.settimeout(before)
+
+
+class Headers:
+    """The headers of a request, as they are read line by line."""
+
+    def __init__(self, file: BinaryIO):
+        self.file, self.left = file, MOST_HEADERS
+
+    def readline(self, size: int) -> bytes:
+        """The next line, or so many bytes of it. Raises http.client.LineTooLong where all lines have more bytes than
+        are taken."""
+        line = self.file.readline(min(size, self.left + 1))
+        self.left -= len(line)
+        if self.left < 0:
+            raise http.client.LineTooLong("headers")
+        return line
 
 
 class Answering(ServerHandler):
@@ -85,6 +103,12 @@ class Answering(ServerHandler):
             self.request_handler.connection.setsockopt(socket.SOL_SOCKET, socket.SO_LINGER, RESET)
 
 
+def log(client: str, request: str, status: str, sent: str, seconds: float) -> None:
+    """Reports an answer: the client, the first line of its request, the status, the bytes, and how long it took."""
+    words = "".join(character if " " <= character <= "~" else "?" for character in request[:500])
+    told(f'{client} "{words}" {status} {sent} {seconds:.3f} s')
+
+
 class Handler(WSGIRequestHandler):
     """A request."""
 
@@ -105,12 +129,22 @@ class Handler(WSGIRequestHandler):
         try:
             self.raw_requestline = self.rfile.readline(MOST_LINE + 1)
             if len(self.raw_requestline) > MOST_LINE:
-                self.send_error(414)
+                self.send_error(414, f"the first line of the request has more than {MOST_LINE} bytes")
+            elif self.raw_requestline and not self.raw_requestline.decode("latin-1").split():
+                self.send_error(400, "the first line of the request is empty")
             elif self.raw_requestline and self.parse_request():
                 self.run()
         except OSError:
             # The client has gone, or doesn't go on.
             self.close_connection = True
+
+    def parse_request(self) -> bool:
+        """Reads the headers, and says whether this is a request. Where it is none, that was answered."""
+        connection, self.rfile = self.rfile, Headers(self.rfile)  # type: ignore[assignment]
+        try:
+            return super().parse_request()
+        finally:
+            self.rfile = connection
 
     def run(self) -> None:
         """Calls the application."""
@@ -124,8 +158,8 @@ class Handler(WSGIRequestHandler):
     def send_error(self, code: int, message: Optional[str] = None, explain: Optional[str] = None) -> None:
         """Answers what is no request, in the form of the service's other errors."""
         status = code if code in REASONS else 400
-        text = error_text(status, message or f"a line of the request has more than {MOST_LINE} bytes",
-                          shown(self.requestline), "/").encode("ascii", "replace")
+        why = f"fewer than 100 headers are taken, of {MOST_HEADERS} bytes in all" if status == 431 else message
+        text = error_text(status, why or REASONS[status], shown(self.requestline), "/").encode("ascii", "replace")
         head = f"HTTP/1.0 {status} {REASONS[status]}\r\nContent-Type: {PLAIN}\r\nContent-Length: {len(text)}\r\n\r\n"
         self.wfile.write(head.encode("ascii") + text)
         self.log_request(status, len(text))
@@ -137,10 +171,8 @@ class Handler(WSGIRequestHandler):
     def log_request(self, code: Any = "-", size: Any = "-") -> None:
         """A line for each request, on standard error."""
         self.is_logged = True
-        words = "".join(character if " " <= character <= "~" else "?" for character in self.requestline[:500])
         sent = size if isinstance(size, str) else f"{size} bytes"
-        told(f'{self.address_string()} "{words}" {str(code).partition(" ")[0]} {sent} '
-             f"{time.monotonic() - self.begun:.3f} s")
+        log(self.address_string(), self.requestline, str(code).partition(" ")[0], sent, time.monotonic() - self.begun)
 
     def log_message(self, format: str, *args: Any) -> None:
         """Nothing else is reported."""
@@ -165,16 +197,29 @@ class Server(socketserver.ThreadingMixIn, WSGIServer):
         self.setup_environ()
 
     def process_request(self, request: Any, client_address: Any) -> None:
-        """Begins to answer a client."""
-        if self.places.acquire(blocking=False):
-            super().process_request(request, client_address)
+        """Begins to answer a client, or says that too many are being answered."""
+        if not self.places.acquire(blocking=False):
+            self.refuse(request, client_address, f"{MOST_CLIENTS} requests are being answered")
             return
-        text = error_text(503, f"{MOST_CLIENTS} requests are being answered", "", "/").encode("ascii")
+        try:
+            super().process_request(request, client_address)
+        except RuntimeError:
+            self.places.release()
+            self.refuse(request, client_address, "the system gives no further thread")
+        except BaseException:
+            self.places.release()
+            raise
+
+    def refuse(self, request: Any, client_address: Any, why: str) -> None:
+        """Says to a client why it isn't answered, and ends its connection at once. What it requests isn't read."""
+        begun = time.monotonic()
+        text = error_text(503, why, "", "/").encode("ascii")
         with contextlib.suppress(OSError):
             request.settimeout(0)
             request.send(f"HTTP/1.0 503 {REASONS[503]}\r\nContent-Type: {PLAIN}\r\n"
                          f"Content-Length: {len(text)}\r\n\r\n".encode("ascii") + text)
         socketserver.TCPServer.shutdown_request(self, request)
+        log(str(client_address[0]), "", "503", f"{len(text)} bytes", time.monotonic() - begun)
 
     def process_request_thread(self, request: Any, client_address: Any) -> None:
         """Answers a client, in a thread of its own."""

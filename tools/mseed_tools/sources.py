@@ -5,10 +5,9 @@ from __future__ import annotations
 import argparse
 import datetime
 import os
-import sys
 from typing import NamedTuple, Sequence
 
-from mseed_tools.command import Parser
+from mseed_tools.command import Parser, tell
 from mseed_tools.joining import Channel, Files, joined
 from mseed_tools.program import ToolError, find
 from mseed_tools.reading import unread
@@ -36,7 +35,7 @@ class Source(NamedTuple):
                 if reading.problem else []
         lines += [f"{path}: misplaced" for path in self.misplaced]
         for line in lines:
-            print(line.encode("utf-8", "surrogateescape").decode("utf-8", "replace"), file=sys.stderr)
+            tell(line)
         return bool(lines)
 
 

@@ -55,6 +55,11 @@ class State:
             except OSError as error:
                 raise ToolError(f"{folder}: {error.strerror}") from error
 
+    def release(self) -> None:
+        """Lets another run hold the folder."""
+        if self.lock is not None:
+            self.lock.close()
+
     def path_of(self, name: str) -> str:
         """Where the text of a channel and year is."""
         return os.path.join(self.folder or "", f"{name}.json")

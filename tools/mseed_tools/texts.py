@@ -21,8 +21,20 @@ PART = re.compile(rb"mseed part 1\n(?:[0-9A-F]{24} records [^\n]+\n)*records \d+
                   rb"(?:faults \d+\n)?(?:fault at \d+ [^\n]+\n)?")
 COUNTS = re.compile(r"records (\d+) bytes (\d+)")
 FOUND = re.compile(r"(\d+) (\S+) record (\d+) start (fault \w+|\S+) (.+)")
-SHOWN = re.compile(r"(\d+) (\S+) . length (\d+) samples (\d+) start (fault \w+|\S+) rate (none|(\d+)/(\d+)) "
-                   r"encoding (\d+) ")
+# A line of `show`: a start is a time of 26 characters, or says that there is none.
+SHOWN_LINE = ("{offset} {name} {quality} length {length} samples {samples} start {start} rate (?:none|{num}/{den}) "
+              "encoding {encoding} .*")
+SHOWN_FIELDS = {"offset": r"\d+", "name": r"\S+", "quality": ".", "length": r"\d+", "samples": r"\d+",
+                "start": r"fault \w+|.{26}", "num": r"\d+", "den": r"\d+", "encoding": r"\d+"}
+
+
+def shown_by(*names: str) -> re.Pattern[str]:
+    """What a line of `show` is matched by, with these of its fields as groups, in the order of the line."""
+    return re.compile(SHOWN_LINE.format(**{name: f"(?P<{name}>{form})" if name in names else f"(?:{form})"
+                                           for name, form in SHOWN_FIELDS.items()}))
+
+
+SHOWN = shown_by("offset", "name", "samples", "start", "num", "den", "encoding")
 
 
 class Kept(NamedTuple):
@@ -120,10 +132,11 @@ def found_in(text: str) -> Iterator[Found]:
 def shown_in(text: str) -> Iterator[Shown]:
     """The records that `show` lists."""
     for line in text.splitlines():
-        found = SHOWN.match(line)
+        found = SHOWN.fullmatch(line)
         if found:
-            rate = Fraction(int(found[7]), int(found[8])) if found[7] else None
-            yield Shown(int(found[1]), found[2], int(found[4]), found[5], rate, int(found[9]))
+            rate = Fraction(int(found["num"]), int(found["den"])) if found["num"] else None
+            yield Shown(int(found["offset"]), found["name"], int(found["samples"]), found["start"], rate,
+                        int(found["encoding"]))
 
 
 def name_of(key: str) -> str:

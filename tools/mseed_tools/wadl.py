@@ -26,7 +26,7 @@ def parameter(name: str, kind: str, default: str, options: Sequence[str]) -> str
 def answers(kind: str) -> str:
     """What may come of a request."""
     errors = "".join(f'<response status="{status}"><representation mediaType="{PLAIN.partition(";")[0]}"/></response>'
-                     for status in ("400", "404", "413", "414", "500", "503"))
+                     for status in ("400", "404", "413", "414", "431", "500", "503"))
     return f'<response status="200"><representation mediaType="{kind}"/></response><response status="204"/>{errors}'
 
 

@@ -1,4 +1,4 @@
-"""What a drawing shows of channels: stretches without a break, and marks."""
+"""What a drawing shows of channels: segments without a break, and marks."""
 
 from __future__ import annotations
 
@@ -19,11 +19,11 @@ class Mark(NamedTuple):
 
 
 class Row(NamedTuple):
-    """What is shown of a channel: its stretches, each from an instant to another, and its marks, by time."""
+    """What is shown of a channel: its segments, each from an instant to another, and its marks, by time."""
 
     name: str
     state: str
-    stretches: list[tuple[int, int]]
+    segments: list[tuple[int, int]]
     marks: list[Mark]
 
     def within(self, begin: int, end: int) -> Row:
@@ -33,19 +33,19 @@ class Row(NamedTuple):
             return left < end and max(right, left + 1) > begin
 
         return self._replace(
-            stretches=[(max(left, begin), min(right, end)) for left, right in self.stretches if is_seen(left, right)],
+            segments=[(max(left, begin), min(right, end)) for left, right in self.segments if is_seen(left, right)],
             marks=[mark._replace(begin=max(mark.begin, begin), end=min(mark.end, end)) for mark in self.marks
                    if is_seen(mark.begin, mark.end)])
 
 
 def row_of(channel: Channel, files: list[tuple[Optional[int], Optional[int]]]) -> Row:
-    """The row of a channel. A stretch ends where a gap or an overlap begins. Of a channel that isn't decoded nobody
-    says what goes on where: each file is a stretch."""
+    """The row of a channel. A segment ends where a gap or an overlap begins. Of a channel that isn't decoded nobody
+    says what goes on where: each file is a segment."""
     marks: list[Mark] = []
     if not channel.is_decoded:
         known = [(begin, max(begin, begin if end is None else end)) for begin, end in files if begin is not None]
         return Row(channel.name, channel.state, sorted(known), [])
-    stretches, begin = [], channel.start
+    segments, begin = [], channel.start
     for at in channel.found:
         start, gap, overlap = micros_of(at.found.start), at.found.micros("gap"), at.found.micros("overlap")
         if start is None:
@@ -55,15 +55,15 @@ def row_of(channel: Channel, files: list[tuple[Optional[int], Optional[int]]]) -
             continue
         end = start - (gap or 0) + (overlap or 0)
         if begin is not None:
-            stretches.append((begin, end))
+            segments.append((begin, end))
         length = (gap if gap is not None else overlap) or 0
         kind = "gap" if gap is not None else "overlap"
         marks.append(Mark(kind, min(start, end), max(start, end),
                           f"{kind} of {seconds_of(length)} s before {at.found.start}"))
         begin = start
     if begin is not None and channel.end is not None:
-        stretches.append((begin, max(begin, channel.end)))
-    return Row(channel.name, channel.state, sorted(stretches), sorted(marks, key=lambda mark: (mark.begin, mark.end)))
+        segments.append((begin, max(begin, channel.end)))
+    return Row(channel.name, channel.state, sorted(segments), sorted(marks, key=lambda mark: (mark.begin, mark.end)))
 
 
 def ends_of(source: Source, channel: Channel) -> list[tuple[Optional[int], Optional[int]]]:
