@@ -12,6 +12,7 @@ which `uninstall` removes them, and no others.
 from __future__ import annotations
 
 import argparse
+import contextlib
 import os
 import shutil
 import site
@@ -110,6 +111,9 @@ class Root:
         """Puts a file or a link, in the place of what was there."""
         self.make_folder(os.path.dirname(thing.path))
         new = f"{self.at(thing.path)}.new"
+        # What a run that was killed has begun.
+        with contextlib.suppress(FileNotFoundError):
+            os.unlink(new)
         if thing.link:
             os.symlink(thing.link, new)
         else:
@@ -189,10 +193,14 @@ def main() -> int:
         print(f"Removed what was installed below {given.destdir}{given.prefix}.")
         return 0
     is_program = given.work == "program"
-    for thing in program(given.built, given.prefix) if is_program else library(given.built, given.prefix,
-                                                                              given.python_dir):
-        root.put(thing)
-    root.note()
+    try:
+        for thing in program(given.built, given.prefix) if is_program else library(given.built, given.prefix,
+                                                                                  given.python_dir):
+            root.put(thing)
+    finally:
+        # What was put is taken away by `uninstall`, also where it isn't all.
+        if root.noted:
+            root.note()
     if is_program:
         print(f"Installed {given.destdir}{given.prefix}/bin/mseed, its pages, and the tools as mseed-sds and the like.")
         return 0

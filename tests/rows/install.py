@@ -9,6 +9,7 @@ import pickle
 import re
 import shutil
 import subprocess
+import sys
 import tempfile
 from pathlib import Path
 from typing import Optional
@@ -136,6 +137,30 @@ def staged(folder: Path) -> Cases:
                    run([PYTHON, str(PACKAGE / "package_folder.py"), at]))
 
 
+def interrupted(folder: Path) -> Cases:
+    """Where installing fails, or was killed: uninstalling takes away what was put, and installing goes on."""
+    root, built = folder / "interrupted", folder / "built"
+    built.write_bytes(b"a program")
+    words = [sys.executable, str(ROOT / "install.py")]
+    place = ["--prefix", "/opt/mseed", "--destdir", str(root)]
+    (root / "opt/mseed/lib/mseed").mkdir(parents=True)
+    (root / "opt/mseed/lib/mseed/tools").write_text("another's", encoding="ascii")
+    before = below(root)
+    said = run([*words, "program", str(built), *place])
+    yield Fact("installing where a file is in the way of a folder", (True, True),
+               ("File exists" in said and "status 1" in said, (root / "opt/mseed/bin/mseed").exists()))
+    run([*words, "uninstall", *place])
+    yield Fact("what uninstalling leaves of it", before, below(root))
+    (root / "opt/mseed/lib/mseed/tools").unlink()
+    (root / "opt/mseed/bin").mkdir()
+    (root / "opt/mseed/bin/mseed-sds.new").symlink_to("begun")
+    (root / "opt/mseed/bin/mseed.new").symlink_to(folder / "elsewhere")
+    said = run([*words, "program", str(built), *place])
+    yield holds("installing where a run that was killed has left links", "status" not in said, said)
+    yield Fact("what is left of these, and written by them", ([], False),
+               (sorted(root.rglob("*.new")), (folder / "elsewhere").exists()))
+
+
 def from_c(folder: Path, settings: dict[str, str], lib: Optional[str]) -> Cases:
     """A program is compiled by pkg-config, and finds the library; where a folder is named, by that."""
     code, program = folder / "alone.c", folder / "by_pkg_config"
@@ -224,6 +249,8 @@ def apart(folder: Path) -> Cases:
 
 def rows() -> Cases:
     """All of them."""
+    with tempfile.TemporaryDirectory() as name:
+        yield from interrupted(Path(name))
     built = library()
     if built is None or not os.path.exists(PYTHON) or shutil.which("pkg-config") is None:
         yield Skipped("what is installed", f"{WANTS}; pkg-config")
