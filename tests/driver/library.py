@@ -35,17 +35,23 @@ def library() -> Optional[Path]:
     """The folder of the library, which is built where it isn't there; nothing where that can't be done in time."""
     if (LIBRARY / SHARED).exists() or LIBRARY != BUILT:
         return LIBRARY if (LIBRARY / SHARED).exists() else None
-    if shutil.which("rt") is None or shutil.which("cc") is None:
+    if not can_be_built():
         return None
     made = ROOT / "tests" / "out"
     made.mkdir(exist_ok=True)
     with (made / "library.lock").open("w") as lock:
         fcntl.flock(lock, fcntl.LOCK_EX)
         if not (LIBRARY / SHARED).exists() and not is_late():
-            build()
+            status, said = build()
             if not (LIBRARY / SHARED).exists():
+                print(f"{said}FAILED make lib: status {status}")
                 LATE.touch()
     return LIBRARY if (LIBRARY / SHARED).exists() else None
+
+
+def can_be_built() -> bool:
+    """Whether the toolchain and a C compiler are there."""
+    return shutil.which("rt") is not None and shutil.which("cc") is not None
 
 
 def build() -> tuple[int, str]:

@@ -1,5 +1,5 @@
 """The package for Python reads on after bytes that begin no record, and reads archives in pieces: by hand, in little
-memory, and by two threads at once. Archives at random are those of library_python.py."""
+memory, and while other threads go on. Archives at random are those of library_python.py."""
 
 from __future__ import annotations
 
@@ -123,40 +123,58 @@ after = resource.getrusage(resource.RUSAGE_SELF).ru_maxrss
 print(samples == 9 * len(SAMPLES) * made.turn, {goes_on for _, goes_on in last.values()}, (after - before) // 1024)
 """
 
-# Two archives, of one channel or of nine by turns, read one after the other and by two threads at once: the least time
-# of each, until the threads are quicker by a seventh, or for half a minute. Other work on the machine comes second, if
-# that may be; else most tries show nothing where there is much of it.
+# While a call of the library lasts, other threads go on: another one takes turns meanwhile, though no thread ever has
+# to make way here. And the share of a reading thread's own time of a processor that such calls are, in the hundred,
+# which is the same however busy the machine is: the least time of either in five.
 THREADS = """
-import os, sys, threading, time, mseed
-paths, channels, alone, together = sys.argv[1:3], int(sys.argv[3]), [], []
+import sys, threading, time, mseed
+from mseed._library import LIBRARY
+channels, turns, called, inside = int(sys.argv[1]), 0, {}, 0.0
 samples = [(i * i) % 1009 - 500 for i in range(2_000_000 // channels)]
-each = [mseed.pack(mseed.make(samples, network="XX", station="STA", channel=f"BH{channel}", rate=100, start_ns=0))
-        for channel in range(channels)]
-for path in paths:
-    with open(path, "wb") as file:
-        file.writelines(part[at : at + 512] for at in range(0, len(each[0]), 512) for part in each)
-try:
-    os.sched_setscheduler(0, os.SCHED_FIFO, os.sched_param(1))
-except OSError:
-    pass
-def work(path):
-    for _ in range(8):
-        assert sum(map(len, mseed.read(path))) == channels * len(samples)
-end = time.perf_counter() + 30
-while len(together) < 3 or min(together) > 0.85 * min(alone) and time.perf_counter() < end:
-    begun = time.perf_counter()
-    for path in paths:
-        work(path)
-    alone.append(time.perf_counter() - begun)
-    begun = time.perf_counter()
-    threads = [threading.Thread(target=work, args=(path,)) for path in paths]
-    for thread in threads:
-        thread.start()
-    for thread in threads:
-        thread.join()
-    together.append(time.perf_counter() - begun)
-print(f"{min(together) / min(alone):.2f}")
+def packed():
+    each = [mseed.pack(mseed.make(samples, network="XX", station="STA", channel=f"BH{channel}", rate=100, start_ns=0))
+            for channel in range(channels)]
+    return b"".join(part[at : at + 512] for at in range(0, len(each[0]), 512) for part in each)
+def read():
+    assert sum(map(len, mseed.read(archive))) == channels * len(samples)
+def time_of_own(action):
+    begun = time.thread_time()
+    action()
+    return time.thread_time() - begun
+def take_turns():
+    global turns
+    while True:
+        turns += 1
+        time.sleep(0.0001)
+def watch(name):
+    call = getattr(LIBRARY, name)
+    def watched(*words):
+        global inside
+        before, begun = turns, time.thread_time()
+        status = call(*words)
+        inside += time.thread_time() - begun
+        called[name] = called.get(name, False) or turns > before
+        return status
+    setattr(LIBRARY, name, watched)
+def time_inside():
+    global inside
+    inside = 0.0
+    read()
+    return inside
+archive = packed()
+whole = min(time_of_own(read) for _ in range(5))
+for name in "mseed_pack", "mseed_rows", "mseed_read":
+    watch(name)
+share = min(time_inside() for _ in range(5)) / whole
+sys.setswitchinterval(1000)
+threading.Thread(target=take_turns, daemon=True).start()
+end = time.monotonic() + 60
+while not (len(called) == 3 and all(called.values())) and time.monotonic() < end:
+    packed()
+    read()
+print(sorted(called.items()), round(100 * share))
 """
+MEANWHILE = "[('mseed_pack', True), ('mseed_read', True), ('mseed_rows', True)]"
 
 
 def value(index: int) -> int:
@@ -267,11 +285,10 @@ def rows() -> Cases:
             words = ended.stdout.decode().rpartition(" ")
             yield holds(f"reading in pieces takes less than 100 MB, {manner}",
                         words[0] == "True {False}" and int(words[2]) < 100, ended.stdout + ended.stderr)
-        if (os.cpu_count() or 1) < 2:
-            yield Skipped("two threads", "two processors")
-            return
-        for channels in (1, 9):
-            words = ["-c", THREADS, str(folder / "first"), str(folder / "second"), str(channels)]
-            ended = python(built, words, numpy=has_numpy())
-            yield holds(f"two threads read two archives of {channels} channels quicker than one after the other",
-                        ended.returncode == 0 and float(ended.stdout) < 1, ended.stdout + ended.stderr)
+        for channels, least in ((1, 20), (9, 8)):
+            ended = python(built, ["-c", THREADS, str(channels)], numpy=has_numpy())
+            said, _, share = ended.stdout.decode().rpartition(" ")
+            kind = f"an archive of {channels} channels"
+            yield Fact(f"other threads go on while {kind} is packed and read", MEANWHILE, said + ended.stderr.decode())
+            yield holds(f"of a thread that reads {kind} they go on for {least} in the hundred of its time",
+                        said == MEANWHILE and int(share) >= least, ended.stdout + ended.stderr)
