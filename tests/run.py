@@ -136,8 +136,9 @@ def main() -> int:
     chosen = given.names or names()
     if is_built():
         # So that nothing is proved beside the rows.
-        if any(name.startswith("library") for name in chosen):
-            library.library()
+        if any(name.startswith("library") for name in chosen) and library.library() is None:
+            # By the gate it is counted already.
+            count.add(Count.failure("make lib") if library.can_be_built() and not given.gate else Count())
         count.add(run_all(chosen, max(1, given.jobs), given.verbose))
     else:
         print(f"FAILED {PROGRAM}: no program")

@@ -196,10 +196,10 @@ FIGURES = [
     size("docs/format.md", "if it has samples, at most ", " a second", "mseed_pack/src/fitting.rt", "FASTEST"),
     size("docs/protocol.md", "A packet has ", " bytes: `SL`", "slink_wire/src/packet.rt", "PACKET"),
     size("docs/protocol.md", "and has at most ", " bytes including it", "slink_feed/src/cutting.rt", "LONGEST_REPLY"),
-    size("docs/protocol.md", "a fixed number of them, 1 to ", ".", "slink_feed/src/ring.rt", "MOST_RECORDS"),
+    size("docs/protocol.md", "a fixed number of them, 1 to ", ".", "slink_wire/src/limits.rt", "MOST_RECORDS"),
     size("docs/protocol.md", "Otherwise it reads at most ", " bytes", "slink_feed/src/serving.rt", "ROOM"),
     size("docs/protocol.md", "until the client closes the link, ", " bytes", "slink_links/src/closing.rt", "MOST"),
-    size("docs/protocol.md", "the input gives at most ", " bytes", "slink_live/src/server.rt", "INPUT"),
+    size("docs/protocol.md", "the input gives at most ", " bytes", "slink_live/src/intake.rt", "INPUT"),
     size("docs/texts.md", "or a name of at most ", " letters", "slink_wire/src/host.rt", "LONGEST"),
 ]
 

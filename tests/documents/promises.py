@@ -4,6 +4,7 @@
 - The row names each crate of which a call stands in the part's tables, or says `all`.
 - Each crate of the entrance's last table is named in the row of a part.
 - No row of a part's tables stands in them twice, nor in those of another part.
+- What the entrance says of what is trusted names each crate of the kit that a line of crates.txt uses.
 """
 
 from __future__ import annotations
@@ -13,7 +14,7 @@ import re
 from typing import Iterator, Mapping
 
 from documents.page import Judged
-from documents.sources import files_below
+from documents.sources import files_below, text_of
 
 ENTRANCE = "docs/promises.md"
 PARTS = [path for path in files_below("docs", "promises") if path.endswith(".md")]
@@ -27,6 +28,15 @@ PROMISE = re.compile(r"^\| (?!promise \|)[^|]* \| ([^|]*) \|.*$", re.MULTILINE)
 CALL = re.compile(r"\[`[\w:]+`\]\((?:\.\./)*crates/(\w+)/src/")
 # Its first lines: the heading, and what the part holds.
 FIRST = 3
+# The paragraph on what is trusted; and a crate with what it uses.
+TRUSTED = re.compile(r"^## Trusted\n\n([^\n]*)", re.MULTILINE)
+USES = re.compile(r"^(\w+)(?: \w+)?: ([^\n]*)$", re.MULTILINE)
+
+
+def crates_of_kit() -> list[str]:
+    """The crates that those of crates.txt use and that aren't among them."""
+    lines = dict(USES.findall(text_of("crates.txt")))
+    return sorted({used for line in lines.values() for used in line.split()} - {*lines})
 
 
 def judged_parts(texts: Mapping[str, str]) -> Iterator[Judged]:
@@ -48,3 +58,7 @@ def judged_parts(texts: Mapping[str, str]) -> Iterator[Judged]:
     for crate in OF_CRATE.findall(entrance):
         is_named = any(f"`{crate}`" in crates for part, crates in rows if part in parts)
         yield Judged(f"{ENTRANCE}: the part of {crate}", is_named, "no row of the table of parts names it")
+    trusted = TRUSTED.search(entrance)
+    for crate in crates_of_kit():
+        yield Judged(f"{ENTRANCE}: the crate {crate}", trusted is not None and f"`{crate}`" in trusted[1],
+                     "isn't named among what is trusted")

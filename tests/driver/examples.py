@@ -12,7 +12,7 @@ from pathlib import Path
 from typing import Iterator, Mapping, Optional
 
 from driver.links import free_port
-from driver.program import BUILT, PROGRAM, ROOT
+from driver.program import BUILT, LIMIT, PROGRAM, ROOT
 from driver.rows import Cases, Fact
 
 
@@ -38,7 +38,7 @@ def printed_by(command: str, folder: str, env: Optional[Mapping[str, str]] = Non
                            stderr=subprocess.STDOUT, text=True, start_new_session=True,
                            env={**os.environ, "PATH": f"{folder}:{os.environ['PATH']}", **(env or {})})
     try:
-        return run.communicate(timeout=100)[0]
+        return run.communicate(timeout=LIMIT)[0]
     except subprocess.TimeoutExpired:
         return "no end"
     finally:

@@ -7,7 +7,7 @@ import re
 import shutil
 import subprocess
 from pathlib import Path
-from typing import Mapping, Optional
+from typing import Mapping
 
 from driver.program import LIMIT, PROGRAM, ROOT, SAMPLES, SOURCES
 

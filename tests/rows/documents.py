@@ -112,14 +112,15 @@ MISPARTED = [
     ("docs/promises/feed.md", "| promise | call | definition | fails |\n|---|---|---|---|\n",
      "| promise | call | definition | fails |\n|---|---|---|---|\n| a | b | c | law |\n| a | b | c | law |\n",
      ["| a | b | c | law |"]),
+    (ENTRANCE, "`clap`, `strsim`, `thiserror`", "`clap`, `thiserror`", ["the crate strsim"]),
 ]
 # Rows of a table of crates that are wrong, and one that is right but for some lines.
 MISCOUNTED = [
-    ("| `mseed_time` | 43 | 770 | 58 | 304 | 32 | 849 | 128 | 7 |", False),
-    ("| `mseed_time` | 65 | 770 | 58 | 304 | 32 | 849 | 128 | 6 |", False),
-    ("| `mseed_time` | 43 | 1,770 | 58 | 304 | 32 | 849 | 128 | 6 |", False),
-    ("| `mseed_time` | 43 | 770 | 58 | 304 | 32 | 849 | 6 |", False),
-    ("| `mseed_time` | 43 | 769 | 58 | 304 | 32 | 849 | 128 | 6 |", True),
+    ("| `mseed_time` | 43 | 769 | 58 | 304 | 32 | 849 | 128 | 7 |", False),
+    ("| `mseed_time` | 65 | 769 | 58 | 304 | 32 | 849 | 128 | 6 |", False),
+    ("| `mseed_time` | 43 | 1,769 | 58 | 304 | 32 | 849 | 128 | 6 |", False),
+    ("| `mseed_time` | 43 | 769 | 58 | 304 | 32 | 849 | 6 |", False),
+    ("| `mseed_time` | 43 | 768 | 58 | 304 | 32 | 849 | 128 | 6 |", True),
 ]
 
 

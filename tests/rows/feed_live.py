@@ -103,9 +103,10 @@ def one_never_reads() -> Cases:
 
 def silent_clients() -> Cases:
     """200 that say nothing cost no time, and are given up."""
-    live = Live("--clients", 256, "--timeout", 4)
+    live = Live("--clients", 256, "--timeout", 10)
     links = [dialled(live.port) for _ in range(200)]
-    time.sleep(1)
+    PATIENCE.until(lambda: live.links() == len(links))
+    time.sleep(0.2)
     before = live.ticks()
     time.sleep(1)
     cost = live.ticks() - before
@@ -214,13 +215,17 @@ def in_turns() -> Cases:
 
 
 def granted_of(links: Sequence[socket.socket], least: int) -> list[socket.socket]:
-    """Those of these links that were granted what they want: a moment after there are at least so many."""
+    """Those of these links that were granted what they want: once there are at least so many, and no more come for a
+    while."""
     def ready() -> list[socket.socket]:
         return select.select(links, [], [], 0)[0]
 
     PATIENCE.until(lambda: len(ready()) >= least)
-    time.sleep(0.3)
-    return ready()
+    before: list[socket.socket] = []
+    while len(those := ready()) > len(before):
+        before = those
+        time.sleep(0.3)
+    return those
 
 
 def exact_numbers() -> Cases:
@@ -268,6 +273,23 @@ def lingering() -> Cases:
     yield Fact("a server with one that stays ends", FINE, ended)
     yield holds("it doesn't wait for long", time.monotonic() - began < 30)
     staying.close()
+
+
+def halved() -> Cases:
+    """One that asked by DATA, says nothing more and keeps its link open for reading has what there is, and its link is
+    closed then, without an end; so that it doesn't get what comes later."""
+    records = recorded(20)
+    live = Live("--timeout", 60)
+    live.feed(b"".join(records[:10]))
+    PATIENCE.until(lambda: is_there(live.port, 9))
+    with granted(live.port, 0) as link:
+        link.shutdown(socket.SHUT_WR)
+        came = PATIENCE.taken(link, PACKET * len(records))
+        live.feed(b"".join(records[10:]))
+        yield Fact("one that asked by DATA and says nothing more", (numbered(records[:10]), 10 * PACKET),
+                   (held_of(came), len(came)))
+        yield holds("its link is closed", PATIENCE.closed([link]) == 1)
+    yield Fact("the server of one that says nothing more ends", FINE, live.end())
 
 
 def granted_fetch(port: int, count: int) -> socket.socket:
@@ -399,6 +421,6 @@ def rows() -> Cases:
     """All of it."""
     yield from words()
     for part in (many_at_once, one_never_reads, silent_clients, times, killed_and_started_anew, more_than_clients,
-                 one_after_another, in_turns, exact_numbers, lingering, closed_streams, bad_inputs, told_at_once,
-                 failing):
+                 one_after_another, in_turns, exact_numbers, lingering, halved, closed_streams, bad_inputs,
+                 told_at_once, failing):
         yield from part()

@@ -13,6 +13,7 @@ import time
 from typing import Optional, Sequence
 
 from driver.feed import Cut, Fetching, Proxy, Server, fetch, fetch_words, kept
+from driver.patience import Patience
 from driver.program import LIMIT
 from driver.rows import Cases, Fact, Row, contents_of, holds, started
 from driver.texts import WRITE_FAILED, About, gap, lost, refused
@@ -88,6 +89,11 @@ def firsts_in(errors: bytes) -> dict[str, int]:
     return {label.decode(): int(digits, 16) for label, digits in found}
 
 
+def size_of(fetching: Fetching) -> int:
+    """How many bytes a client wrote so far."""
+    return os.fstat(fetching.output.fileno()).st_size
+
+
 def of_place(place: Place, output: bytes) -> list[bytes]:
     """The whole records of a station in an output."""
     records = [output[at : at + 512] for at in range(0, len(output) - 511, 512)]
@@ -106,7 +112,9 @@ def killed_clients() -> Cases:
     while True:
         fetching = Fetching(fetch_words(places, server.port, TELL, wants=wants))
         if kills < 25:
-            time.sleep(source.random() * 0.008)
+            # On a busy machine it has written more by the time that this is seen, so it is a small part of all.
+            least = source.randrange(len(records) * 512 // 100)
+            Patience().until(lambda: size_of(fetching) >= least or fetching.process.poll() is not None)
             kills += fetching.process.poll() is None
             fetching.process.kill()
         status, output, errors = fetching.end()

@@ -231,7 +231,7 @@ def no_links() -> Cases:
                    fetch([STA], port, "--tries", tries))
     # What is reported is of the last try.
     speaker = Speaker([[b"OK\r\n"]])
-    fetching = Fetching(fetch_words([STA], speaker.port, "--tries", 3))
+    fetching = Fetching(fetch_words([STA], speaker.port, "--tries", 6))
     speaker.thread.join()
     speaker.close()
     yield Fact("fetch that nobody answers any more", (2, b"", undialled(speaker.port)), fetching.end())

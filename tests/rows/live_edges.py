@@ -62,7 +62,8 @@ def live_of_all(*options: str) -> Live:
     """A live server that has its records."""
     live = Live("--timeout", 60, *options)
     live.feed(ARCHIVE)
-    time.sleep(0.2)
+    address = options[options.index("--address") + 1] if "--address" in options else ADDRESSES[0][0]
+    PATIENCE.until(lambda: answer(address, live.port, FETCH, len(FETCHED)) in (FETCHED, "refused"))
     return live
 
 
@@ -118,10 +119,14 @@ DESCRIPTORS, DIALLING = 24, 40
 
 
 def ready_of(links: Sequence[socket.socket], least: int) -> list[socket.socket]:
-    """Those of these links that were sent something: a moment after there are at least so many."""
+    """Those of these links that were sent something: once there are at least so many, and no more come for a
+    while."""
     PATIENCE.until(lambda: len(select.select(links, [], [], 0)[0]) >= least)
-    time.sleep(0.6)
-    return select.select(links, [], [], 0)[0]
+    before: list[socket.socket] = []
+    while len(ready := select.select(links, [], [], 0)[0]) > len(before):
+        before = ready
+        time.sleep(0.6)
+    return ready
 
 
 def descriptors() -> Cases:
@@ -167,16 +172,16 @@ def descriptors() -> Cases:
     yield Fact("the server ends", FINE, live.end())
 
 
-# What clients of `--timeout 2` send, a piece each so many seconds, and after how many seconds they are given up, at
-# least and at most: the last two are not.
+# What clients of `--timeout 4` send, a piece each so many seconds, and whether they are given up: all but the last two,
+# after 4 seconds and before 20, for which a piece each would go on.
 LINE = REQUEST % 0
-DROPS: list[tuple[str, list[bytes], float, Optional[tuple[float, float]]]] = [
-    ("a byte of the handshake each 0.3 s", [LINE[at : at + 1] for at in range(len(LINE))], 0.3, (2, 5)),
-    ("a byte of an endless line each 0.3 s", [b"x"] * 40, 0.3, (2, 5)),
-    ("a whole line each 0.5 s, and no END", [b"HELLO\r\n"] * 20, 0.5, (2, 5)),
-    ("a station each 0.5 s, and no END", [b"STATION STA XX\r\nDATA 0\r\n"] * 20, 0.5, (2, 5)),
-    ("the handshake in four pieces within 1.2 s, and then nothing", [LINE[:9], LINE[9:20], LINE[20:], b""], 0.3, None),
-    ("the handshake at once, and then a byte each 0.3 s", [LINE, *[b"\n"] * 14], 0.3, None),
+DROPS: list[tuple[str, list[bytes], float, bool]] = [
+    ("a byte of the handshake each 0.7 s", [LINE[at : at + 1] for at in range(len(LINE))], 0.7, True),
+    ("a byte of an endless line each 0.5 s", [b"x"] * 40, 0.5, True),
+    ("a whole line each 0.5 s, and no END", [b"HELLO\r\n"] * 40, 0.5, True),
+    ("a station each 0.5 s, and no END", [b"STATION STA XX\r\nDATA 0\r\n"] * 40, 0.5, True),
+    ("the handshake in four pieces within 1.2 s, and then nothing", [LINE[:9], LINE[9:20], LINE[20:], b""], 0.3, False),
+    ("the handshake at once, and then a byte each 0.3 s", [LINE, *[b"\n"] * 24], 0.3, False),
 ]
 
 
@@ -206,22 +211,22 @@ def drop(port: int, pieces: Sequence[bytes], pause: float, seconds: float) -> tu
 def drops() -> Cases:
     """A handshake that takes longer than the time is given up, though no byte of it was waited for so long; one that is
     done in time is not, and neither is its link. All side by side."""
-    live = Live("--timeout", 2)
+    live = Live("--timeout", 4)
     live.feed(ARCHIVE)
     ends: dict[str, tuple[Optional[float], bytes]] = {}
 
-    def run(name: str, pieces: Sequence[bytes], pause: float) -> None:
-        ends[name] = drop(live.port, pieces, pause, 6)
+    def run(name: str, pieces: Sequence[bytes], pause: float, is_given_up: bool) -> None:
+        ends[name] = drop(live.port, pieces, pause, 20 if is_given_up else 8)
 
-    threads = [threading.Thread(target=run, args=client, daemon=True) for *client, _ in DROPS]
+    threads = [threading.Thread(target=run, args=client, daemon=True) for client in DROPS]
     for thread in threads:
         thread.start()
     for thread in threads:
-        thread.join(10)
-    for name, _, _, bounds in DROPS:
+        thread.join(40)
+    for name, _, _, is_given_up in DROPS:
         seconds, came = ends.get(name, (None, b"no end"))
-        if bounds:
-            yield holds(f"{name}: given up in time", seconds is not None and bounds[0] <= seconds < bounds[1], seconds)
+        if is_given_up:
+            yield holds(f"{name}: given up in time", seconds is not None and seconds >= 4, seconds)
             yield holds(f"{name}: nothing but replies came", b"SL" not in came.replace(b"SeedLink", b""), came)
         else:
             yield Fact(f"{name}: not given up", (None, FETCHED[:-3]), (seconds, came))

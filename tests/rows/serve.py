@@ -93,20 +93,24 @@ def refused_memory(words: Sequence[str], port: int) -> Cases:
     if refusing is None:
         yield Skipped("serve with allocations refused", COMPILER)
         return
-    for name, lines, archive, further in (
-        ("a record", unlistened(port), STA, []),
-        ("records of two places", unlistened(port), BOTH, ["XX_STB"]),
-        ("more records than the ring keeps", keeps("XX_STA", 1, 2) + unlistened(port), STA + STA, ["--capacity", "1"]),
-        ("a record of another place", f"mseed: {foreign(1, 'XY_STA', 512)}\n".encode(), NETWORK, []),
-        ("an end within a record", b"mseed: fault at 512 truncated 300\n", CUT, []),
+    for name, kept, lines, archive, further in (
+        ("a record", b"", unlistened(port), STA, []),
+        ("records of two places", b"", unlistened(port), BOTH, ["XX_STB"]),
+        ("more records than the ring keeps", keeps("XX_STA", 1, 2), unlistened(port), STA + STA, ["--capacity", "1"]),
+        ("a record of another place", b"", f"mseed: {foreign(1, 'XY_STA', 512)}\n".encode(), NETWORK, []),
+        ("an end within a record", b"", b"mseed: fault at 512 truncated 300\n", CUT, []),
     ):
-        row = Row(name, archive, [*words, *further], 2, b"", lines)
+        row, later = Row(name, archive, [*words, *further], 2, b"", kept + lines), []
         for number, came in refused_in_turn(row, refusing):
-            if came.err != NO_MEMORY:
+            if came.err == kept + NO_MEMORY:
+                later.append(number)
+            elif came.err != NO_MEMORY:
                 break
-            yield Fact(f"{name} with allocation {number} refused", (2, b"", NO_MEMORY), came[:3])
+            yield Fact(f"{name} with allocation {number} refused", (2, b""), came[:2])
         yield Fact(f"{name} with no allocation refused at {number}", (2, b"", row.err), came[:3])
         yield holds(f"{name} allocates", number > 5, number)
+        # The last allocation is that of the room for packets, after it was said what the ring keeps.
+        yield holds(f"{name}: what is refused late", not kept or later == [number - 1], (later, number))
 
 
 def rows() -> Cases:
