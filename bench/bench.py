@@ -16,6 +16,7 @@ a temporary folder.
 """
 
 import argparse
+import hashlib
 import os
 import re
 import shutil
@@ -43,12 +44,16 @@ def build():
 
 
 def make_archive(name, megabytes):
-    """The path of an archive, such as steim2_512: an encoding and a length of records."""
-    path = os.path.join(FOLDER, f"{name}_{megabytes}.mseed")
+    """The path of an archive, such as steim2_512: an encoding and a length of records. One that stands there was made
+    whole, by the same source of what makes it."""
+    with open(os.path.join(HERE, "make_archive.c"), "rb") as source:
+        made_by = hashlib.sha256(source.read()).hexdigest()[:12]
+    path = os.path.join(FOLDER, f"{name}_{megabytes}_{made_by}.mseed")
     if not os.path.exists(path):
         encoding, length = name.split("_")
-        subprocess.run([os.path.join(FOLDER, "make_archive"), "-o", path, "-m", str(megabytes),
+        subprocess.run([os.path.join(FOLDER, "make_archive"), "-o", f"{path}.new", "-m", str(megabytes),
                         "-E", str(ENCODINGS[encoding]), "-R", length], check=True, stderr=subprocess.DEVNULL)
+        os.replace(f"{path}.new", path)
     return path
 
 

@@ -25,7 +25,7 @@ import time
 HERE = os.path.dirname(os.path.abspath(__file__))
 sys.path.insert(0, os.path.join(os.path.dirname(HERE), "tests"))
 
-from models.packing import SECOND, btime  # noqa: E402
+from models.packing import btime  # noqa: E402
 from models.workloads import DAY, START, recorded  # noqa: E402
 from tables import environment, processor_seconds, table, write  # noqa: E402
 
