@@ -1,15 +1,12 @@
 -- How serving one connection after another ends.
-use Rattle.std.specs.Prelude.{⊤, ◌≡◌, ℕ, ◌+◌, ◌<◌, ◌^◌, nat_lt, Bool, List, [], ◌++◌, All, replicate, None, Result, Ok}
+use Rattle.std.specs.Prelude.{⊤, ◌≡◌, ℕ, ◌+◌, ◌<◌, ◌^◌, nat_lt, Bool, List, ◌++◌, All, Result, Ok}
 use Rattle.std.specs.Prelude.{Err, codes}
 use Rattle.mseed_stream.specs.Device.{BytesRead, BytesWritten, nothing_read, nothing_written}
 use Rattle.mseed_stream.specs.Exchanges.{Exchange}
-use Rattle.slink_wire.specs.Lines.{IsHeld}
 use Rattle.slink_feed.specs.Attending.{Attends, IsServeFault, attending}
 use Rattle.slink_feed.specs.Rounds.{Attending}
-use Rattle.slink_feed.specs.Serving.{SessionState}
-use Rattle.slink_feed.specs.Session.{at}
+use Rattle.slink_feed.specs.Serving.{IsNew, SessionState}
 use Rattle.slink_feed.specs.Window.{Window}
-use Rattle.slink_feed.specs.declared.session.Phase.TheVariants.{Fresh}
 use Rattle.slink_feed.specs.declared.turn.LinkFault.{LinkFault}
 use Rattle.slink_feed.specs.declared.turn.Turn.TheVariants.{Goes, Closed}
 use Rattle.mseed_stream.specs.LineWritten.{WritesLine}
@@ -38,16 +35,11 @@ pub data HasTakenAll (feed : List Window) (first : Attending) (before : BytesRea
       → HasTakenTurns feed first before n now mid
       → IsServeFault feed now last mid after fault → HasTakenAll feed first before (Err fault) last after
 
--- The session has read nothing, and granted nothing.
-pub record IsFresh (s : SessionState) : Type 0 where
-  pub state : s.state ≡ at Fresh (replicate 16 None)
-  pub held : IsHeld s.held []
-
 -- A link was served by a session of its own.
 pub record IsServed (feed : List Window) (result : Result ⊤ LinkFault) (read_old read_new : BytesRead)
     (written_old written_new : BytesWritten) : Type 0 where
   pub first : SessionState
-  pub fresh : IsFresh first
+  pub fresh : IsNew first
   pub last : SessionState
   pub turns : HasTakenAll feed (attending first written_old) read_old result (attending last written_new) read_new
 

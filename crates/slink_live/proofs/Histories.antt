@@ -2,13 +2,13 @@
 use Rattle.std.proofs.Common.{◌≡◌, ℕ, refl, sym, List, [], ◌∷◌, ◌++◌, append_assoc, take, drop}
 use Rattle.std.proofs.Common.{take-append-drop, Option, Some, None}
 use Rattle.slink_wire.specs.Reply.{reply_bytes}
-use Rattle.slink_feed.specs.Serving.{Serves, SessionState, none_served, piece_served}
+use Rattle.slink_feed.specs.Serving.{IsNew, Serves, SessionState, none_served, piece_served}
 use Rattle.slink_feed.specs.Session.{sent_bytes}
 use Rattle.slink_feed.specs.Window.{Window}
 use Rattle.slink_live.specs.Happening.{Happening, Opened, Received, Emitted, Gone, Handed, input_of}
 use Rattle.slink_live.specs.Input.{IsFed}
 use Rattle.slink_live.specs.Served.{IsHistory, LinkState, Matches, link_state}
-use Rattle.slink_live.specs.History.{Asks, IsNew, IsServed, History, history, none_called, one_called, opens, receives}
+use Rattle.slink_live.specs.History.{Asks, IsServed, History, history, none_called, one_called, opens, receives}
 use Rattle.slink_live.specs.History.{asks, takes, goes, elsewhere}
 
 -- with something stated before

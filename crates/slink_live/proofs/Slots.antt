@@ -8,6 +8,7 @@ use Rattle.std.proofs.lemmas.Bool.Decides.{eqb_tells}
 use Rattle.std.proofs.lemmas.Option.{none-some, same_Some}
 use Rattle.std.specs.List.{AllByRecursion}
 use Rattle.std.specs.Option.{is_some}
+use Rattle.slink_feed.specs.Serving.{IsNew}
 use Rattle.slink_feed.specs.Session.{Fits}
 use Rattle.slink_feed.specs.Window.{Window}
 use Rattle.slink_feed.specs.Intake.{places_of}
@@ -19,7 +20,7 @@ use Rattle.slink_live.specs.Happening.{is_input, is_left, last_interest, left_by
 use Rattle.slink_live.specs.Happening.{piece_of, reads_of, wants_links}
 use Rattle.slink_live.specs.Input.{IsFed, IsInput}
 use Rattle.slink_live.specs.Served.{GoesOn, IsSound, IsHistory, LinkState, ServerState, link_state}
-use Rattle.slink_live.specs.History.{IsNew, elsewhere}
+use Rattle.slink_live.specs.History.{elsewhere}
 use Rattle.slink_live.specs.private.Calling.{HasFilled, HasReceived, HasTaken}
 use Rattle.slink_live.specs.Turns.{Closes, IsReport, Leaves}
 use Rattle.slink_live.specs.private.Keeping.{Carries, KeepsServing}

@@ -1,13 +1,11 @@
 -- What a link is sent: what one session sends, to the link's own lines alone, over the rings of the records so far.
-use Rattle.std.specs.Prelude.{◌≡◌, ℕ, ◌+◌, ◌<◌, ◌≤◌, ◌⊎◌, false, List, [], ◌∷◌, ◌++◌, length, replicate, Option, Some}
+use Rattle.std.specs.Prelude.{◌≡◌, ℕ, ◌+◌, ◌<◌, ◌≤◌, ◌⊎◌, false, List, [], ◌∷◌, ◌++◌, length, Option, Some}
 use Rattle.std.specs.Prelude.{None}
 use Rattle.mseed_stream.specs.Device.{IsPrefixOf}
-use Rattle.slink_wire.specs.Lines.{IsHeld}
-use Rattle.slink_feed.specs.declared.session.Phase.TheVariants.{Fresh}
 use Rattle.slink_feed.specs.declared.session.Sent.{Sent}
 use Rattle.slink_feed.specs.declared.session.Sent.TheVariants as Sents
-use Rattle.slink_feed.specs.Serving.{Serves, SessionState}
-use Rattle.slink_feed.specs.Session.{State, at, sent, sent_bytes}
+use Rattle.slink_feed.specs.Serving.{IsNew, Serves, SessionState}
+use Rattle.slink_feed.specs.Session.{State, sent, sent_bytes}
 use Rattle.slink_feed.specs.Window.{Window}
 use Rattle.slink_live.specs.Happening.{Happening, Opened, Received, Emitted, Gone, input_of, is_at}
 use Rattle.slink_live.specs.Input.{IsFed}
@@ -22,11 +20,6 @@ pub record History : Type 0 where
 abbrev pub history : SessionState → ℕ → List ℕ → List ℕ → History
 history session ring produced emitted =
     record { session = session; ring = ring; produced = produced; emitted = emitted }
-
--- It is the session of a new link.
-pub record IsNew (s : SessionState) : Type 0 where
-  pub state : s.state ≡ at Fresh (replicate 16 None)
-  pub held : IsHeld s.held []
 
 -- In a round of the stations from one on, the station comes before another.
 abbrev pub IsEarlier : ℕ → ℕ → ℕ → Type 0

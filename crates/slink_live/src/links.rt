@@ -2,10 +2,10 @@
 ghost use Rattle.std.specs.Prelude.{◌≡◌, ◌+◌, ◌<◌, ◌≤◌, List, None, Option, Some, IfOk, IfSome, get_or, length, set};
 ghost use Rattle.std.specs.Bool.{OnFalse, OnTrue};
 ghost use Rattle.std.specs.Option.{is_some};
+ghost use Rattle.slink_feed.specs.Serving.{IsNew};
 ghost use Rattle.slink_feed.specs.Session.{Fits};
 ghost use Rattle.slink_feed.specs.Window.{Window};
 ghost use Rattle.slink_live.specs.Served.{AllFit, AreEmpty, LinkState};
-ghost use Rattle.slink_live.specs.History.{IsNew};
 ghost use Rattle.slink_live.specs.private.Calling.{HasFilled, HasReceived, HasTaken, IfRested, IsOutcome};
 ghost use Rattle.slink_live.specs.private.Granting.{AreCovered, Changes, CoversIn, LeavesOut};
 

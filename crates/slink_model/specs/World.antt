@@ -2,12 +2,10 @@
 use Rattle.std.specs.Prelude.{false, ◌≡◌, ℕ, ◌<◌, List, [], ◌∷◌, ◌++◌, length, map, take, drop, replicate, Option, Some}
 use Rattle.std.specs.Prelude.{None, option_map, unwrap_or, slice_get, slice_set, slice_index_or}
 use Rattle.std.specs.Global.{Vec}
-use Rattle.slink_wire.specs.Lines.{IsHeld}
 use Rattle.slink_wire.specs.Place.{Fields, Bears}
 use Rattle.slink_feed.specs.declared.dialogue.Event.{Event}
 use Rattle.slink_feed.specs.declared.dialogue.Event.TheVariants as events
 use Rattle.slink_feed.specs.declared.grant.Grant.{Grant}
-use Rattle.slink_feed.specs.declared.session.Phase.TheVariants.{Fresh}
 use Rattle.slink_feed.specs.declared.session.Sent.{Sent}
 use Rattle.slink_feed.specs.declared.session.Sent.TheVariants as sents
 use Rattle.slink_model.specs.declared.world.Link.{Link}
@@ -17,8 +15,8 @@ use Rattle.slink_model.specs.declared.world.Step.TheVariants.{Append, Connect, T
 use Rattle.slink_model.specs.declared.world.World.{World}
 use Rattle.slink_feed.specs.Dialogue.{requests_place}
 use Rattle.slink_feed.specs.Listening.{Brings, IsLinked, Listening, new_client}
-use Rattle.slink_feed.specs.Serving.{SessionState, Serves}
-use Rattle.slink_feed.specs.Session.{Grants, at, grant_at, sent, sent_bytes}
+use Rattle.slink_feed.specs.Serving.{IsNew, Serves, SessionState}
+use Rattle.slink_feed.specs.Session.{Grants, grant_at, sent, sent_bytes}
 use Rattle.slink_feed.specs.Window.{Window, with_record}
 
 -- the records of each station
@@ -127,11 +125,6 @@ abbrev pub Both : (LinkState → LinkState → Type 0) → Option LinkState → 
 Both R None None = Unit {0}
 Both R (Some l) (Some m) = R l m
 Both R old new = ⊥
-
--- A session that has taken nothing.
-pub record IsNew (s : SessionState) : Type 0 where
-  pub state : s.state ≡ at Fresh (replicate 16 None)
-  pub held : IsHeld s.held []
 
 -- what a client sends
 abbrev pub written : Event → List ℕ

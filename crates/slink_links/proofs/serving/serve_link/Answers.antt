@@ -7,7 +7,7 @@ use Rattle.slink_links.proofs.serving.serve_link.Goals as goal
 pub loop-turn-init : goal.loop-turn-init
 loop-turn-init g c = record {
   fits = c.new-session.ensures.fits c.args.feed.now;
-  fresh = record { state = c.new-session.ensures.is_new.state; held = c.new-session.ensures.is_new.held };
+  fresh = c.new-session.ensures.is_new;
   taken = none;
 }
 
