@@ -1,16 +1,17 @@
 //! Calls of `mseed_feed`.
 ghost use Rattle.std.specs.Prelude.{◌≡◌, []};
 ghost use Rattle.mseed_stream.specs.Device.{nothing_read};
-ghost use Rattle.mseed_feed.specs.Listened.{NotYet};
+ghost use Rattle.mseed_feed.specs.Transport.{NotYet};
 ghost use Rattle.mseed_words.specs.FeedWords.{CanFetch, CanServe, CanServeLive};
 
 use mseed_feed::{
-    Device, Listen, TcpListening, fetch, plan_fetch, plan_serve, serve, serve_live, serve_live_at,
+    Device, TcpTransport, Transport, fetch, plan_fetch, plan_serve, serve, serve_live,
+    serve_live_at,
 };
 use mseed_stream::{Buffered, Sink, Source};
 use mseed_words::{Endpoint, Fetching, LiveServing, Serving};
 use slink_links::LivePlan;
-use slink_wire::Address;
+use slink_wire::{Address, Host};
 use std::alloc::Global;
 use std::io;
 use std::io::{BufReader, Read};
@@ -34,32 +35,32 @@ pub fn connections_planned<R: Source, E: Sink>(
     }
 }
 
-/// Serves what a reader gives, where one can listen, and answers the exit status.
-pub fn serve_reader<L: Listen, T: Read + Drop, E: Sink>(
+/// Serves what a reader gives, over a transport, and answers the exit status.
+pub fn serve_reader<T: Transport, R: Read + Drop, E: Sink>(
     alloc: Global,
     serving: &Serving,
-    reader: T,
-    listening: &mut L,
+    reader: R,
+    transport: &mut T,
     errors: &mut E,
 ) -> io::Result<u8>
-    requires new { L.came listening.old ≡ NotYet }
+    requires new { T.came transport.old ≡ NotYet }
     requires called { CanServe serving.now }
 {
     let input = Buffered::new(BufReader::new(alloc, reader)?);
-    Ok(serve(alloc, serving, input, listening, errors))
+    Ok(serve(alloc, serving, input, transport, errors))
 }
 
-/// Serves where one can listen, and answers whether all went well.
-pub fn has_served_at<L: Listen, E: Sink>(
+/// Serves over a transport, and answers whether all went well.
+pub fn has_served_at<T: Transport, E: Sink>(
     alloc: Global,
     live: &LiveServing,
-    listening: &mut L,
+    transport: &mut T,
     errors: &mut E,
 ) -> bool
-    requires new { L.came listening.old ≡ NotYet }
+    requires new { T.came transport.old ≡ NotYet }
     requires called { CanServeLive live.now }
 {
-    serve_live_at(alloc, live, listening, errors) == 0
+    serve_live_at(alloc, live, transport, errors) == 0
 }
 
 /// Serves over TCP what an input gives, and answers whether all went well.
@@ -72,16 +73,16 @@ pub fn has_served_at_port<N: Net + Clock, I: Read + AsRawFd + Drop, E: Sink>(
 ) -> bool
     requires { CanServeLive live.now }
 {
-    has_served_at(alloc, live, &mut TcpListening::new(host, input), errors)
+    has_served_at(alloc, live, &mut TcpTransport::new(host, input), errors)
 }
 
 /// Whether it can be listened by a plan. Nobody is served.
-pub fn can_listen<L: Listen>(alloc: Global, plan: LivePlan, listening: &mut L) -> bool
-    requires { L.came listening.old ≡ NotYet }
+pub fn can_listen<T: Transport>(alloc: Global, plan: LivePlan, transport: &mut T) -> bool
+    requires { T.came transport.old ≡ NotYet }
 {
-    match listening.listen(alloc, plan) {
+    match transport.listen(alloc, plan) {
         Ok(device) => {
-            listening.hang_up(device);
+            transport.hang_up(device);
             true
         }
         Err(_) => false,
@@ -89,16 +90,16 @@ pub fn can_listen<L: Listen>(alloc: Global, plan: LivePlan, listening: &mut L) -
 }
 
 /// Whether it can be listened for one connection after another. Nobody is served.
-pub fn can_listen_in_turn<L: Listen>(
+pub fn can_listen_in_turn<T: Transport>(
     alloc: Global,
     listener: Endpoint<Address>,
-    listening: &mut L,
+    transport: &mut T,
 ) -> bool
-    requires { L.came listening.old ≡ NotYet }
+    requires { T.came transport.old ≡ NotYet }
 {
-    match listening.listen_in_turn(alloc, listener) {
+    match transport.listen_in_turn(alloc, listener) {
         Ok(acceptor) => {
-            listening.close(acceptor);
+            transport.close(acceptor);
             true
         }
         Err(_) => false,
@@ -126,14 +127,29 @@ pub fn tries_planned(fetching: &Fetching) -> u32
     plan_fetch(fetching).tries
 }
 
-/// Fetches what is requested, and answers whether the server said that there are no more records.
-pub fn has_fetched_all<N: Net + Clock, W: Sink, E: Sink>(
-    host: &N,
+/// Fetches what is requested over a transport, and answers whether the server said that there are no more records.
+pub fn has_fetched_all<T: Transport, W: Sink, E: Sink>(
+    alloc: Global,
     fetching: &Fetching,
+    transport: &mut T,
     output: &mut W,
     errors: &mut E,
 ) -> bool
-    requires { CanFetch fetching.now }
+    requires new { T.came transport.old ≡ NotYet }
+    requires called { CanFetch fetching.now }
 {
-    fetch(host, fetching, output, errors) == 0
+    fetch(alloc, fetching, transport, output, errors) == 0
+}
+
+/// Whether there is what dials a server. Nobody is dialled.
+pub fn can_reach<T: Transport>(alloc: Global, server: Endpoint<Host>, transport: &mut T) -> bool
+    requires { T.came transport.old ≡ NotYet }
+{
+    match transport.reach(alloc, server) {
+        Ok((dialler, pauses)) => {
+            transport.leave(dialler, pauses);
+            true
+        }
+        Err(_) => false,
+    }
 }

@@ -4,16 +4,16 @@ ghost use Rattle.std.specs.Net.Text.{ipv4_text};
 ghost use Rattle.slink_links.specs.Out.{AreOut};
 ghost use Rattle.slink_links.specs.Served.{IsServed};
 
-use mseed_stream::Sink;
+use mseed_stream::{Sink, Tally};
 use mseed_text::Line;
 use slink_feed::{Client, Feed, LinkFault};
 use slink_links::{
-    Accept, AcceptLog, Dial, DialFault, EndsHandshake, FetchEnd, FetchPlan, FetchTerms,
-    ListenFault, Loss, NetworkFault, Pause, ServePlan, Server, TcpAcceptor, fetch, fetch_all,
-    fetch_link, fetch_planned, put_address, serve_all, serve_link, serve_planned,
+    Accept, AcceptLog, Dial, DialFault, DialLog, EndsHandshake, FetchEnd, FetchPlan, FetchTerms,
+    ListenFault, Loss, NetworkFault, Pause, ServePlan, Server, Sleeper, TcpAcceptor, TcpDialler,
+    fetch_all, fetch_link, fetch_planned, put_address, serve_all, serve_link, serve_planned,
 };
 use slink_wire::{Address, Host, Timeout};
-use std::alloc::Global;
+use std::alloc::{AllocError, Global};
 use std::io;
 use std::io::Error;
 use std::net::Net;
@@ -60,13 +60,18 @@ pub fn line_of_address(address: Address) -> Line
     line
 }
 
-/// Fetches from port 18000 of this machine, over at most three connections. The exit status.
+/// Fetches from port 18000 of this machine, over at most three connections, and returns the exit status.
+///
+/// # Errors
+///
+/// Where there is no memory for what is read ahead.
 pub fn fetch_thrice<N: Net + Clock, W: Sink, E: Sink>(
     net: &N,
+    alloc: Global,
     client: Client,
     output: &mut W,
     errors: &mut E,
-) -> u8 {
+) -> Result<u8, AllocError> {
     let mut plan = FetchPlan {
         host: Host::Address(Address::local()),
         port: 18_000,
@@ -75,7 +80,23 @@ pub fn fetch_thrice<N: Net + Clock, W: Sink, E: Sink>(
         report_next: false,
         client,
     };
-    fetch(net, &mut plan, output, errors)
+    let server = Server {
+        host: plan.host,
+        port: plan.port,
+    };
+    let mut dialler = TcpDialler::new(net, alloc, server, plan.timeout)?;
+    let mut sleeper = Sleeper::new(net);
+    Ok(fetch_planned(&mut plan, &mut dialler, &mut sleeper, output, errors))
+}
+
+/// Dials no more, and returns what is known of the calls that were made.
+pub fn dialled<N: Net + Clock>(dialler: TcpDialler<'_, N>) -> DialLog {
+    dialler.into_log()
+}
+
+/// Waits no more, and returns how long it was to wait: nothing at run time.
+pub fn slept<C: Clock>(sleeper: Sleeper<'_, C>) -> Tally {
+    sleeper.into_log()
 }
 
 /// Serves a feed over links of the caller's, and says whether none failed.

@@ -4,7 +4,7 @@ use Rattle.std.proofs.Common.{refl, Result, subst}
 use Rattle.mseed_files.specs.Found.{Found}
 use Rattle.mseed_select.specs.Selecting.{selection_of}
 use Rattle.mseed_record.specs.Selection.{Selection}
-use Rattle.mseed_feed.specs.Listened.{Heard}
+use Rattle.mseed_feed.specs.Transport.{TransportState}
 use Rattle.mseed_stream.specs.Device.{BytesRead, BytesWritten, nothing_read}
 use Rattle.mseed_words.specs.declared.request.Command.{Command}
 use Rattle.mseed_words.specs.declared.request.Fetching.{Fetching}
@@ -17,7 +17,7 @@ use Rattle.mseed.specs.Effect.{HasDone, HasEffect, HasRun}
 use Rattle.mseed.specs.Streams.{Streams, streams}
 
 pub done : (found : List ℕ → Found) (words : List (List ℕ)) (r : Request) (asked : Option Selection)
-    (files : List (List ℕ)) (status : ℕ) (old new : Streams) (before after : Heard)
+    (files : List (List ℕ)) (status : ℕ) (old new : Streams) (before after : TransportState)
     → ((s : Serving) → r ≡ Serve s → ⊥) → ((l : LiveServing) → r ≡ Live l → ⊥) → ((f : Fetching) → r ≡ Fetch f → ⊥)
     → HasRun found words r asked files status old new → after ≡ before
     → HasDone found words r asked files status old new before after
@@ -33,7 +33,8 @@ still E (Ok status) a b c before after = tt
 still E (Err e) a b c before after = after ∙ before
 
 -- what the command does that was read
-abbrev Does : (List ℕ → Found) → List (List ℕ) → Command → ℕ → Streams → Streams → Heard → Heard → Type 0
+abbrev Does : (List ℕ → Found) → List (List ℕ) → Command → ℕ → Streams → Streams → TransportState → TransportState
+    → Type 0
 Does found words command status old new before after =
     HasDone found words command.request (option_map selection_of command.selector)
     (map (λ file. file.now) command.files.items) status old new before after
@@ -41,7 +42,7 @@ Does found words command status old new before after =
 -- It is the one that was asked for.
 pub effect : (E : Type 0) (found : List ℕ → Found) (words : List (List ℕ)) (command : Command) (request : Request)
     (asked : Option Selection) (files : List (List ℕ)) (r : Result ℕ E) (w0 w1 e0 e1 e2 : BytesWritten)
-    (before after : Heard) → (IsAsked request asked files (Ok command) e0 e1 ⊎ LacksMemory (Ok command) e0 e1)
+    (before after : TransportState) → (IsAsked request asked files (Ok command) e0 e1 ⊎ LacksMemory (Ok command) e0 e1)
     → IfOk r (λ status. (read : BytesRead)
     × Does found words command status (streams nothing_read w0 e1) (streams read w1 e2) before after)
     → IfOk r (λ status. (read : BytesRead)

@@ -15,7 +15,7 @@ use Rattle.mseed_record.specs.Selection.{Selection}
 use Rattle.mseed_stream.specs.Cutting.{GivesMore}
 use Rattle.mseed_stream.specs.Device.{BytesRead, BytesWritten, nothing_read}
 use Rattle.mseed_feed.specs.Commands.{HasFetchedRequested, HasServedInput}
-use Rattle.mseed_feed.specs.Listened.{Heard, IsListenedFor}
+use Rattle.mseed_feed.specs.Transport.{IsListenedFor, TransportState}
 use Rattle.mseed_feed.specs.Live.{HasServedAt}
 use Rattle.mseed_words.specs.declared.request.Command.{Command}
 use Rattle.mseed_words.specs.declared.request.Request.{Request}
@@ -112,11 +112,11 @@ pub data HasRun (found : List ℕ → Found) (words : List (List ℕ)) (request 
 abbrev pub IsRefusedBy : (Result Command ℕ → BytesWritten → BytesWritten → Type 0) → ℕ → Streams → Streams → Type 0
 IsRefusedBy Refuses status old new = Refuses (Err status) old.errors new.errors × (new.output ≡ old.output)
 
--- What a request comes to: its exit status, what was read and written, and what is known of where links are taken. Only
--- `fetch` writes what it doesn't read. Only `serve` and `serve --live` listen: by what is requested, and what they come
--- to is by all that happened there.
+-- What a request comes to: its exit status, what was read and written, and what is known of how links are had. Only
+-- `fetch` writes what it doesn't read. Only `serve` and `serve --live` listen, and only `fetch` dials: by what is
+-- requested, and what they come to is by all that happened at the device of their links.
 abbrev pub HasDone : (List ℕ → Found) → List (List ℕ) → Request → Option Selection → List (List ℕ) → ℕ → Streams
-    → Streams → Heard → Heard → Type 0
+    → Streams → TransportState → TransportState → Type 0
 HasDone found words (Serve serving) asked files status old new before after =
     HasReadOf (bytes_of (found (codes "-")) ∷ []) new.input
     × HasServedInput serving new.input status old.errors new.errors before after
@@ -126,22 +126,22 @@ HasDone found words (Live live) asked files status old new before after =
     × HasServedAt live after.came status old.errors new.errors
     × (new.output ≡ old.output)
 HasDone found words (Fetch fetching) asked files status old new before after =
-    HasFetchedRequested fetching status old.output new.output old.errors new.errors × (after ≡ before)
+    HasFetchedRequested fetching after status old.output new.output old.errors new.errors
 HasDone found words request asked files status old new before after =
     HasRun found words request asked files status old new × (after ≡ before)
 
 -- The request was carried out, unless there was no memory for the arguments.
 abbrev pub HasEffect : (List ℕ → Found) → List (List ℕ) → Request → Option Selection → List (List ℕ) → ℕ → Streams
-    → Streams → Heard → Heard → Type 0
+    → Streams → TransportState → TransportState → Type 0
 HasEffect found words request asked files status old new before after =
     HasDone found words request asked files status old new before after
     ⊎ (IsRefusedBy LacksMemory status old new × (after ≡ before))
 
 -- What came of a command line, by the texts that stand for its words. They request something, which was done; or they
--- request nothing that there is, which was reported; or they are refused. Nothing is opened or listened for then.
-pub record HasComeTo {F L : Type 0} (found : List ℕ → Found) (words texts : List (List ℕ)) (status : ℕ)
-    (files files' : F) (listening listening' : L) (written written' reported reported' : BytesWritten)
-    (before after : Heard) : Type 0 where
+-- request nothing that there is, which was reported; or they are refused. No file is opened then, and no link had.
+pub record HasComeTo {F T : Type 0} (found : List ℕ → Found) (words texts : List (List ℕ)) (status : ℕ)
+    (files files' : F) (transport transport' : T) (written written' reported reported' : BytesWritten)
+    (before after : TransportState) : Type 0 where
   pub called : (request : Request) (asked : Option Selection) (named : List (List ℕ))
       → AsksFor texts request asked named → (read : BytesRead) × HasEffect found words request asked named status
       (streams nothing_read written reported) (streams read written' reported') before after
@@ -152,5 +152,5 @@ pub record HasComeTo {F L : Type 0} (found : List ℕ → Found) (words texts : 
       (streams nothing_read written reported) (streams nothing_read written' reported')
   pub unopened : ((mistake : Mistake) (given : List ℕ) → AsksForNothing texts mistake given → files' ≡ files)
       × (AreRefused texts → files' ≡ files)
-  pub unlistened : ((mistake : Mistake) (given : List ℕ) → AsksForNothing texts mistake given
-      → listening' ≡ listening) × (AreRefused texts → listening' ≡ listening)
+  pub unlinked : ((mistake : Mistake) (given : List ℕ) → AsksForNothing texts mistake given
+      → transport' ≡ transport) × (AreRefused texts → transport' ≡ transport)

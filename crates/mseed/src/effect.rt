@@ -4,7 +4,7 @@ ghost use Rattle.mseed_words.specs.Arguments.{texts_in, words_in};
 ghost use Rattle.mseed_words.specs.Texts.{AreTextsOf};
 ghost use Rattle.mseed_select.specs.Selecting.{selection_of};
 ghost use Rattle.mseed_record.specs.Selection.{Selection};
-ghost use Rattle.mseed_feed.specs.Listened.{NotYet, heard};
+ghost use Rattle.mseed_feed.specs.Transport.{NotYet, transport_state};
 ghost use Rattle.mseed_stream.specs.Device.{BytesRead, nothing_read};
 ghost use Rattle.mseed_words.specs.Words.{AreRefused, AsksFor, AsksForNothing, CanBeCalled};
 ghost use Rattle.mseed_words.specs.declared.mistake.Mistake.{Mistake};
@@ -15,7 +15,7 @@ ghost use Rattle.mseed.specs.Streams.{streams};
 
 use crate::command::command_of;
 use crate::files::{ROOM, run_over_named};
-use mseed_feed::{Listen, fetch, serve, serve_live_at};
+use mseed_feed::{Transport, fetch, serve, serve_live_at};
 use mseed_files::{Chain, Files, STANDARD_INPUT};
 use mseed_stream::Sink;
 use mseed_words::{Arguments, Command, CommandLine, Request};
@@ -29,27 +29,27 @@ use std::io;
 ///
 /// `OutOfMemory` where there is no room for the arguments, a buffer or names of files. Nothing was read or written
 /// then.
-pub fn carry_out_arguments<G: Arguments, F: Files, L: Listen, W: Sink, E: Sink>(
+pub fn carry_out_arguments<G: Arguments, F: Files, T: Transport, W: Sink, E: Sink>(
     rt: &HostRuntime,
     arguments: &G,
     files: &mut F,
-    listening: &mut L,
+    transport: &mut T,
     output: &mut W,
     errors: &mut E,
 ) -> io::Result<u8>
-    requires { L.came listening.old ≡ NotYet }
+    requires { T.came transport.old ≡ NotYet }
     ensures effect { IfOk result (λ status. IfSome (G.given arguments.now) (λ given.
         (texts : List (List ℕ)) × AreTextsOf given texts
-        × HasComeTo (F.found files.old) given texts status files.old files.new listening.old listening.new
+        × HasComeTo (F.found files.old) given texts status files.old files.new transport.old transport.new
         (W.written output.old) (W.written output.new) (E.written errors.old) (E.written errors.new)
-        (heard (L.planned listening.old) (L.came listening.old))
-        (heard (L.planned listening.new) (L.came listening.new)))) }
+        (transport_state (T.planned transport.old) (T.came transport.old))
+        (transport_state (T.planned transport.new) (T.came transport.new)))) }
     ensures unwritten { IfErr result (λ _. W.written output.new ≡ W.written output.old) }
     ensures unreported { IfErr result (λ _. E.written errors.new ≡ E.written errors.old) }
-    ensures unserved { IfErr result (λ _. listening.new ≡ listening.old) }
+    ensures unconnected { IfErr result (λ _. transport.new ≡ transport.old) }
 {
     let line = CommandLine::of(rt.alloc(), arguments)?;
-    carry_out(rt, files, listening, &line, output, errors)
+    carry_out(rt, files, transport, &line, output, errors)
 }
 
 /// Does what the words of a command line request, and returns the exit status. A buffer for an input is made once it is
@@ -57,30 +57,30 @@ pub fn carry_out_arguments<G: Arguments, F: Files, L: Listen, W: Sink, E: Sink>(
 ///
 /// The contract holds over any standard input and any files, as `files` gives them: what was read is a beginning of
 /// their bytes, in the order of the words and each once, and all of them where the input is at its end. Of arguments
-/// that request nothing no file is opened or read. It holds wherever `listening` takes links, at which nobody listens
-/// yet: `serve` and `serve --live` listen there, as it is requested, and what they come to is by all that happened
-/// there; whatever else is requested, it is left alone.
+/// that request nothing no file is opened or read. It holds over any `transport` of which no device was requested yet:
+/// `serve` and `serve --live` listen, and `fetch` dials, as it is requested, and what they come to is by all that
+/// happened at that device; whatever else is requested, the transport is left alone.
 ///
 /// # Errors
 ///
 /// `OutOfMemory` where there is no room for a buffer or for names of files. Nothing was read or written then.
-pub fn carry_out<F: Files, L: Listen, W: Sink, E: Sink>(
+pub fn carry_out<F: Files, T: Transport, W: Sink, E: Sink>(
     rt: &HostRuntime,
     files: &mut F,
-    listening: &mut L,
+    transport: &mut T,
     line: &CommandLine,
     output: &mut W,
     errors: &mut E,
 ) -> io::Result<u8>
-    requires { L.came listening.old ≡ NotYet }
+    requires { T.came transport.old ≡ NotYet }
     ensures called { (request : Request) (asked : Option Selection) (named : List (List ℕ))
         → AsksFor (texts_in line.now) request asked named
         → IfOk result (λ status. (read : BytesRead) × HasEffect (F.found files.old)
         (words_in line.now) request asked named status
         (streams nothing_read (W.written output.old) (E.written errors.old))
         (streams read (W.written output.new) (E.written errors.new))
-        (heard (L.planned listening.old) (L.came listening.old))
-        (heard (L.planned listening.new) (L.came listening.new))) }
+        (transport_state (T.planned transport.old) (T.came transport.old))
+        (transport_state (T.planned transport.new) (T.came transport.new))) }
     ensures bad { (mistake : Mistake) (given : List ℕ)
         → AsksForNothing (texts_in line.now) mistake given
         → IfOk result (λ status. IsRefusedBy
@@ -94,15 +94,15 @@ pub fn carry_out<F: Files, L: Listen, W: Sink, E: Sink>(
     ensures unopened { ((mistake : Mistake) (given : List ℕ)
         → AsksForNothing (texts_in line.now) mistake given → files.new ≡ files.old)
         × (AreRefused (texts_in line.now) → files.new ≡ files.old) }
-    ensures unlistened { ((mistake : Mistake) (given : List ℕ)
-        → AsksForNothing (texts_in line.now) mistake given → listening.new ≡ listening.old)
-        × (AreRefused (texts_in line.now) → listening.new ≡ listening.old) }
+    ensures unlinked { ((mistake : Mistake) (given : List ℕ)
+        → AsksForNothing (texts_in line.now) mistake given → transport.new ≡ transport.old)
+        × (AreRefused (texts_in line.now) → transport.new ≡ transport.old) }
     ensures unwritten { IfErr result (λ _. W.written output.new ≡ W.written output.old) }
     ensures unreported { IfErr result (λ _. E.written errors.new ≡ E.written errors.old) }
-    ensures unserved { IfErr result (λ _. listening.new ≡ listening.old) }
+    ensures unconnected { IfErr result (λ _. transport.new ≡ transport.old) }
 {
     match command_of(rt.alloc(), line, errors) {
-        Ok(command) => execute(rt, files, listening, &command, &line.words, output, errors),
+        Ok(command) => execute(rt, files, transport, &command, &line.words, output, errors),
         Err(status) => Ok(status),
     }
 }
@@ -112,36 +112,36 @@ pub fn carry_out<F: Files, L: Listen, W: Sink, E: Sink>(
 /// # Errors
 ///
 /// `OutOfMemory` where there is no room for a buffer or for names of files. Nothing was read or written then.
-fn execute<F: Files, L: Listen, W: Sink, E: Sink>(
+fn execute<F: Files, T: Transport, W: Sink, E: Sink>(
     rt: &HostRuntime,
     files: &mut F,
-    listening: &mut L,
+    transport: &mut T,
     command: &Command<'_>,
     words: &[Vec<u8>],
     output: &mut W,
     errors: &mut E,
 ) -> io::Result<u8>
-    requires new { L.came listening.old ≡ NotYet }
+    requires new { T.came transport.old ≡ NotYet }
     requires called { CanBeCalled command.now.request }
     ensures done { IfOk result (λ status. (read : BytesRead)
         × HasDone (F.found files.old) (map (λ word. word.items) words.now) command.now.request
         (option_map selection_of command.now.selector) (map (λ file. file.now) command.now.files.items) status
         (streams nothing_read (W.written output.old) (E.written errors.old))
         (streams read (W.written output.new) (E.written errors.new))
-        (heard (L.planned listening.old) (L.came listening.old))
-        (heard (L.planned listening.new) (L.came listening.new))) }
+        (transport_state (T.planned transport.old) (T.came transport.old))
+        (transport_state (T.planned transport.new) (T.came transport.new))) }
     ensures unwritten { IfErr result (λ _. W.written output.new ≡ W.written output.old) }
     ensures unreported { IfErr result (λ _. E.written errors.new ≡ E.written errors.old) }
-    ensures unserved { IfErr result (λ _. listening.new ≡ listening.old) }
+    ensures unconnected { IfErr result (λ _. transport.new ≡ transport.old) }
 {
     match &command.request {
         Request::Serve(serving) => {
             let names = [STANDARD_INPUT];
             let input = Chain::new(rt.alloc(), files, &names, ROOM)?;
-            Ok(serve(rt.alloc(), serving, input, listening, errors))
+            Ok(serve(rt.alloc(), serving, input, transport, errors))
         }
-        Request::Live(live) => Ok(serve_live_at(rt.alloc(), live, listening, errors)),
-        Request::Fetch(fetching) => Ok(fetch(rt, fetching, output, errors)),
+        Request::Live(live) => Ok(serve_live_at(rt.alloc(), live, transport, errors)),
+        Request::Fetch(fetching) => Ok(fetch(rt.alloc(), fetching, transport, output, errors)),
         _ => Ok(run_over_named(rt.alloc(), files, command, words, output, errors)?),
     }
 }

@@ -12,7 +12,7 @@ mod refusal;
 mod status;
 
 use effect::carry_out_arguments;
-use mseed_feed::TcpListening;
+use mseed_feed::TcpTransport;
 use mseed_files::System;
 use mseed_stream::Counted;
 use mseed_words::Process;
@@ -26,7 +26,7 @@ fn main(rt: HostRuntime) -> ExitCode {
         &rt,
         &Process::new(&rt),
         &mut System::new(&rt),
-        &mut TcpListening::new(&rt, rt.stdin()),
+        &mut TcpTransport::new(&rt, rt.stdin()),
         &mut Counted::new(io::writer(&rt)),
         &mut errors,
     );

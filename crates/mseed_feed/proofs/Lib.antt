@@ -3,4 +3,5 @@ pub mod OneFilling
 pub mod Numbered
 mod Kept
 mod InTurn
+mod Dialled
 mod Served

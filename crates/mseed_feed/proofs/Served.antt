@@ -9,7 +9,7 @@ use Rattle.mseed_words.specs.declared.request.Serving.{Serving}
 use Rattle.mseed_feed.specs.Commands.{HasReadInput, HasServedInput, IsServedBy}
 use Rattle.mseed_feed.specs.Plans.{IsPlannedBy, IsServeRun}
 use Rattle.mseed_feed.specs.InTurn.{HasServedInTurn, IsListenedInTurn, listener_of}
-use Rattle.mseed_feed.specs.Listened.{Heard}
+use Rattle.mseed_feed.specs.Transport.{TransportState}
 
 -- what was read of an input of which nothing was read before
 pub read_from_start : (old new : BytesRead) (left rest : Option (List ℕ)) (apart later : Beside) → old ≡ nothing_read
@@ -22,7 +22,7 @@ read_from_start old new left rest apart later none reads = record {
 
 -- a plan that was carried out
 pub served : (A : Type 0) (s : Serving) (plan : ServePlan A) (read : BytesRead) (old between new : BytesWritten)
-    (status : ℕ) (before after : Heard) → IsServeRun s (Ok plan) read old between
+    (status : ℕ) (before after : TransportState) → IsServeRun s (Ok plan) read old between
     → IsListenedInTurn (listener_of plan) after.planned
     → HasServedInTurn (listener_of plan) plan.connections plan.feed after.came status between new
     → HasServedInput s read status old new before after
@@ -40,8 +40,9 @@ served A s plan read old between new status before after run there done =
     by (Err fault) is = absurd is
 
 -- no plan
-pub refused : (A : Type 0) (s : Serving) (read : BytesRead) (old new : BytesWritten) (status : ℕ) (before : Heard)
-    → IsServeRun {A = A} s (Err status) read old new → HasServedInput s read status old new before before
+pub refused : (A : Type 0) (s : Serving) (read : BytesRead) (old new : BytesWritten) (status : ℕ)
+    (before : TransportState) → IsServeRun {A = A} s (Err status) read old new
+    → HasServedInput s read status old new before before
 refused A s read old new status before run =
     record { outcome = run.outcome; filling = run.filling; only = run.only; served = by run.outcome run.planned }
   where

@@ -10,11 +10,11 @@ use Rattle.slink_links.specs.Served.{HasServed, HasServedEach}
 use Rattle.slink_links.specs.Taken.{Taken}
 use Rattle.slink_links.specs.declared.plan.ServePlan.{ServePlan}
 use Rattle.mseed_words.specs.declared.request.Endpoint.{Endpoint}
-use Rattle.mseed_feed.specs.Listened.{InTurn, Listened, NotYet, Over, Refused}
+use Rattle.mseed_feed.specs.Transport.{Fetched, InTurn, NotYet, Over, Refused, TransportOutcome}
 use Rattle.mseed_feed.specs.Unlistened.{IsUnlistened}
-use Rattle.mseed_feed.specs.declared.listening.Planned.{Planned}
-use Rattle.mseed_feed.specs.declared.listening.Planned.TheVariants.{InTurn as in_turn}
-use Rattle.mseed_feed.specs.declared.listening.Refusal.TheVariants.{Memory, Port}
+use Rattle.mseed_feed.specs.declared.transport.Planned.{Planned}
+use Rattle.mseed_feed.specs.declared.transport.Planned.TheVariants.{InTurn as in_turn}
+use Rattle.mseed_feed.specs.declared.transport.DeviceFault.TheVariants.{Memory, Port}
 
 -- where a plan says that connections are taken
 abbrev pub listener_of : {A : Type 0} → ServePlan A → Endpoint Address
@@ -33,7 +33,8 @@ pub record HasServedTo (feed : List Window) (connections : ℕ) (links : Taken) 
 
 -- By what came of listening: so it was, by the links that were taken at the device that was had; or the port couldn't
 -- be had that was requested, or there was no memory for the device.
-abbrev pub HasServedInTurn : Endpoint Address → ℕ → List Window → Listened → ℕ → BytesWritten → BytesWritten → Type 0
+abbrev pub HasServedInTurn : Endpoint Address → ℕ → List Window → TransportOutcome → ℕ → BytesWritten → BytesWritten
+    → Type 0
 HasServedInTurn listener connections feed NotYet status old new = ⊥
 HasServedInTurn listener connections feed (Refused (Port fault)) status old new =
     IsUnlistened listener fault status old new
@@ -42,6 +43,7 @@ HasServedInTurn listener connections feed (Refused Memory) status old new =
 HasServedInTurn listener connections feed (Over log has_failed) status old new = ⊥
 HasServedInTurn listener connections feed (InTurn links) status old new =
     HasServedTo feed connections links status old new
+HasServedInTurn listener connections feed (Fetched links) status old new = ⊥
 
 -- It was listened there, for one connection after another.
 abbrev pub IsListenedInTurn : Endpoint Address → Option Planned → Type 0

@@ -1,7 +1,7 @@
 pub mod Filling
 pub mod Plans
 pub mod Unlistened
-pub mod Listened
+pub mod Transport
 pub mod InTurn
 pub mod Commands
 pub mod Live

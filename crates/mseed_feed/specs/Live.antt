@@ -15,10 +15,10 @@ use Rattle.slink_live.specs.Turns.{HasSteps, Stands}
 use Rattle.mseed_files.specs.InputFiles.{no_memory}
 use Rattle.mseed_words.specs.declared.request.LiveServing.{LiveServing}
 use Rattle.mseed_feed.specs.Filling.{feed_of}
-use Rattle.mseed_feed.specs.Listened.{InTurn, Listened, NotYet, Over, Refused}
+use Rattle.mseed_feed.specs.Transport.{Fetched, InTurn, NotYet, Over, Refused, TransportOutcome}
 use Rattle.mseed_feed.specs.Plans.{fill_lines}
 use Rattle.mseed_feed.specs.Unlistened.{IsUnlistened}
-use Rattle.mseed_feed.specs.declared.listening.Refusal.TheVariants.{Memory, Port}
+use Rattle.mseed_feed.specs.declared.transport.DeviceFault.TheVariants.{Memory, Port}
 
 -- Records can be numbered on for as long as the input is read.
 abbrev pub CanNumber : List Window → Type 0
@@ -60,10 +60,11 @@ pub data HasServed (feed : List Window) (clients : ℕ) (has_failed : Bool) (log
 
 -- By what came of listening: so it was, by the rings and the slots that were requested, with all that happened at the
 -- device that was had; or the port couldn't be had that was requested, or there was no memory for the device.
-abbrev pub HasServedAt : LiveServing → Listened → ℕ → BytesWritten → BytesWritten → Type 0
+abbrev pub HasServedAt : LiveServing → TransportOutcome → ℕ → BytesWritten → BytesWritten → Type 0
 HasServedAt live NotYet status old new = ⊥
 HasServedAt live (Refused (Port fault)) status old new = IsUnlistened live.serving.listener fault status old new
 HasServedAt live (Refused Memory) status old new = (status ≡ 2) × WritesLine no_memory old new
 HasServedAt live (Over log has_failed) status old new =
     HasServed (feed_of live.serving []) live.clients has_failed log status old new
 HasServedAt live (InTurn links) status old new = ⊥
+HasServedAt live (Fetched links) status old new = ⊥

@@ -5,12 +5,12 @@ ghost use Rattle.slink_live.specs.Awake.{IsAwake};
 ghost use Rattle.slink_live.specs.Served.{IsFinished, IsServing, IsSound, ServerState};
 ghost use Rattle.mseed_words.specs.FeedWords.{CanServeLive};
 ghost use Rattle.mseed_feed.specs.Filling.{feed_of};
-ghost use Rattle.mseed_feed.specs.Listened.{IsListenedFor, IsPlanFor, NotYet};
+ghost use Rattle.mseed_feed.specs.Transport.{IsListenedFor, IsPlanFor, NotYet};
 ghost use Rattle.mseed_feed.specs.Live.{EndsWith, HasServed, HasServedAt};
 
 use crate::filling::open;
-use crate::listening::{Device, Listen, Refusal};
 use crate::refusal::{link_failed, refuse_memory, report_filling, report_unlistened};
+use crate::transport::{Device, DeviceFault, Transport};
 use mseed_stream::Sink;
 use mseed_words::LiveServing;
 use slink_links::{DONE, FAULT, LivePlan};
@@ -25,26 +25,26 @@ use std::net::{IpAddr, Ipv4Addr, SocketAddr};
 /// says at which address and port, and why.
 // Its buffers stand in its own frame, and not in that of every command.
 #[inline(never)]
-pub fn serve_live_at<L: Listen, E: Sink>(
+pub fn serve_live_at<T: Transport, E: Sink>(
     alloc: Global,
     live: &LiveServing,
-    listening: &mut L,
+    transport: &mut T,
     errors: &mut E,
 ) -> u8
-    requires new { L.came listening.old ≡ NotYet }
+    requires new { T.came transport.old ≡ NotYet }
     requires called { CanServeLive live.now }
-    ensures served { HasServedAt live.now (L.came listening.new) result (E.written errors.old)
+    ensures served { HasServedAt live.now (T.came transport.new) result (E.written errors.old)
         (E.written errors.new) }
-    ensures planned { IsListenedFor live.now (L.planned listening.new) }
+    ensures planned { IsListenedFor live.now (T.planned transport.new) }
 {
-    match listening.listen(alloc, plan_of(live)) {
+    match transport.listen(alloc, plan_of(live)) {
         Ok(mut device) => {
             let status = serve_live(alloc, live, &mut device, errors);
-            listening.hang_up(device);
+            transport.hang_up(device);
             status
         }
-        Err(Refusal::Memory) => refuse_memory(errors),
-        Err(Refusal::Port(fault)) => report_unlistened(errors, &live.serving.listener, fault),
+        Err(DeviceFault::Memory) => refuse_memory(errors),
+        Err(DeviceFault::Port(fault)) => report_unlistened(errors, &live.serving.listener, fault),
     }
 }
 

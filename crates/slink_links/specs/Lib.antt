@@ -1,6 +1,7 @@
 pub mod Out
 pub mod Served
 pub mod Taken
+pub mod Dialled
 pub mod Pauses
 pub mod Fetched
 pub mod ListenFault

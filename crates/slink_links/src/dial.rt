@@ -6,6 +6,33 @@ ghost use Rattle.slink_links.specs.Out.{AreOut};
 
 use crate::handshake::EndsHandshake;
 use crate::trouble::{DialFault, Loss, Trouble};
+use mseed_stream::{Exchanges, Tally};
+
+/// All calls for links to a server, one after another, for proofs, and what went wrong in the last try.
+#[derive(Drop)]
+pub struct DialLog {
+    /// The calls for a link, and how many of them failed.
+    pub calls: Tally,
+    /// What went over the links that were given back, in order.
+    pub given_back: Exchanges,
+    /// What went wrong in the last try.
+    pub trouble: Option<Trouble>,
+}
+
+impl DialLog {
+    ghost use Rattle.slink_links.specs.Dialled.{dialled_by, nothing_dialled};
+
+    /// Returns the log of no call.
+    pub(crate) fn new() -> DialLog
+        ensures { dialled_by result [] ≡ nothing_dialled }
+    {
+        DialLog {
+            calls: Tally::new(),
+            given_back: Exchanges::new(),
+            trouble: None,
+        }
+    }
+}
 
 /// Where links are requested, one after another: each is given back before the next one is requested.
 pub trait Dial {

@@ -6,7 +6,7 @@
 //! Between its tries [`fetch_all`] waits by a [`Pause`]. A link that is silent for too long fails as by any other
 //! cause.
 //! [`serve_planned`] and [`fetch_planned`] carry out a plan over such devices. Over TCP a [`TcpAcceptor`] is an
-//! [`Accept`], and [`fetch`] carries out a plan.
+//! [`Accept`], and a [`TcpDialler`] is a [`Dial`]; a [`Sleeper`] is a [`Pause`] by a clock.
 //!
 //! A [`LiveTcp`] is standard input and many links over TCP at once, by one wait for all of them.
 #![tactic(auto)]
@@ -38,17 +38,17 @@ mod time_limited;
 mod trouble;
 
 pub use accept::{Accept, AcceptLog};
-pub use dial::Dial;
+pub use dial::{Dial, DialLog};
 pub use ending::put_address;
 pub use fetching::{FetchEnd, fetch_all, fetch_link};
 pub use handshake::EndsHandshake;
 pub use listen_fault::ListenFault;
 pub use live_tcp::{LivePlan, LiveTcp};
 pub use network_fault::NetworkFault;
-pub use pause::Pause;
+pub use pause::{Pause, Sleeper};
 pub use plan::{FetchPlan, FetchTerms, ServePlan, Server};
 pub use planned::{fetch_planned, serve_planned};
 pub use serving::{serve_all, serve_link};
 pub use status::{DONE, FAULT};
-pub use tcp::{TcpAcceptor, fetch};
+pub use tcp::{TcpAcceptor, TcpDialler};
 pub use trouble::{DialFault, Loss, Trouble};

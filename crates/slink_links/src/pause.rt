@@ -18,18 +18,27 @@ pub trait Pause {
 
 /// Waits by a clock.
 #[derive(Drop)]
-pub(crate) struct Sleeper<'a, C: Clock> {
+pub struct Sleeper<'a, C: Clock> {
     clock: &'a C,
     called: Tally,
 }
 
 impl<'a, C: Clock> Sleeper<'a, C> {
-    /// A sleeper by a clock, which hasn't waited yet.
-    pub(crate) fn new(clock: &'a C) -> Sleeper<'a, C> {
+    /// Returns what waits by a clock, and hasn't waited yet.
+    pub fn new(clock: &'a C) -> Sleeper<'a, C>
+        ensures { ⟦<Sleeper<'a, C> as Pause>⟧.called result ≡ [] }
+    {
         Sleeper {
             clock,
             called: Tally::new(),
         }
+    }
+
+    /// Waits no more, and returns how long it was to wait, in tenths of a second, each as a byte, in order.
+    pub fn into_log(self) -> Tally
+        ensures { result.bytes ≡ ⟦<Sleeper<'a, C> as Pause>⟧.called self.entry }
+    {
+        self.called
     }
 }
 

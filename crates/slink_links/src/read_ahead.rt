@@ -15,14 +15,14 @@ pub(crate) type Room = [u8; ROOM];
 /// A stream of which all that is there is read at once, and handed on piece by piece. It isn't called while something
 /// is left to hand on, so that a client that takes a packet at a time costs the system one read for many.
 #[derive(Drop)]
-pub(crate) struct ReadAhead<'a, S> {
+pub struct ReadAhead<S> {
     stream: S,
-    room: &'a mut Room,
+    room: Box<Room>,
     reported: usize,
     count: usize,
 }
 
-impl<'a, S> Model for ReadAhead<'a, S> {
+impl<S> Model for ReadAhead<S> {
     ghost Value = { S };
 
     ghost view = { λ a. a.stream };
@@ -30,9 +30,9 @@ impl<'a, S> Model for ReadAhead<'a, S> {
     ghost invariant = { λ a. (a.reported ≤ a.count) × (a.count ≤ ROOM) };
 }
 
-impl<'a, S> ReadAhead<'a, S> {
+impl<S> ReadAhead<S> {
     /// The stream, of which nothing was read ahead yet.
-    pub(crate) fn new(stream: S, room: &'a mut Room) -> ReadAhead<'a, S>
+    pub(crate) fn new(stream: S, room: Box<Room>) -> ReadAhead<S>
         ensures { result ≡ stream }
     {
         ReadAhead {
@@ -51,14 +51,14 @@ impl<'a, S> ReadAhead<'a, S> {
     }
 }
 
-impl<'a, S: Drop> ReadAhead<'a, S> {
+impl<S: Drop> ReadAhead<S> {
     /// The room, for the next link. What was read ahead and isn't handed on is lost, and the stream is let go of.
-    pub(crate) fn into_room(self) -> &'a mut Room {
+    pub(crate) fn into_room(self) -> Box<Room> {
         self.room
     }
 }
 
-impl<S: Read> Read for ReadAhead<'_, S> {
+impl<S: Read> Read for ReadAhead<S> {
     fn read(&mut self, buf: &mut [u8]) -> io::Result<usize> {
         let room = &mut *self.room;
         if self.reported == self.count {
@@ -74,7 +74,7 @@ impl<S: Read> Read for ReadAhead<'_, S> {
     }
 }
 
-impl<S: Write> Write for ReadAhead<'_, S> {
+impl<S: Write> Write for ReadAhead<S> {
     fn write(&mut self, bytes: &[u8]) -> io::Result<usize> {
         self.stream.write(bytes)
     }

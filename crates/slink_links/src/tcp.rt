@@ -1,30 +1,27 @@
 //! Links over TCP.
-ghost use Rattle.std.specs.Prelude.{◌≡◌, IfOk, IfSome, Option, is_some, nat_lt};
+ghost use Rattle.std.specs.Prelude.{◌≡◌, [], IfOk, IfSome};
 ghost use Rattle.mseed_stream.specs.Counted.{read_by, written_by};
 ghost use Rattle.mseed_stream.specs.Device.{nothing_read, nothing_written};
-ghost use Rattle.slink_links.specs.Fetched.{FetchesAll, IsQuiet, server_of};
+ghost use Rattle.slink_links.specs.Dialled.{dialled, dialled_by, nothing_dialled};
 ghost use Rattle.slink_links.specs.Out.{AreOut};
 ghost use Rattle.slink_links.specs.Taken.{nothing_taken, taken, taken_by};
 
 use crate::accept::{Accept, AcceptLog};
 use crate::closing::close;
-use crate::dial::Dial;
-use crate::fetching::FetchEnd;
+use crate::dial::{Dial, DialLog};
 use crate::guards::{listener_off_streams, off_streams};
 use crate::handshake::EndsHandshake;
 use crate::listen_fault::ListenFault;
 use crate::network_fault::NetworkFault;
 use crate::packet_buffer::{PacketBuffer, ROOM, Room};
-use crate::pause::Sleeper;
-use crate::plan::FetchPlan;
-use crate::planned::fetch_planned;
+use crate::plan::Server;
 use crate::read_ahead;
 use crate::read_ahead::ReadAhead;
 use crate::time_limited::{Limits, TimeLimited};
 use crate::trouble::{DialFault, Loss, Trouble};
-use mseed_stream::{Counted, Exchanges, Sink, Tally};
+use mseed_stream::Counted;
 use slink_wire::{Address, Host, Name, Timeout};
-use std::alloc::Global;
+use std::alloc::{AllocError, Global};
 use std::io;
 use std::io::{ErrorKind, Read, Write};
 use std::net::{Ipv4Addr, Net, OpenListener, OpenStream, SocketAddr, TcpListener, TcpStream};
@@ -58,7 +55,7 @@ impl<C: Clock, S: Read + Write + OpenStream + Drop> EndsHandshake
 }
 
 impl<C: Clock, S: Read + Write + OpenStream + Drop> EndsHandshake
-    for Counted<ReadAhead<'_, TimeLimited<'_, C, S>>> {
+    for Counted<ReadAhead<TimeLimited<'_, C, S>>> {
     fn end_handshake(&self) {
         self.get_ref().stream().end_handshake();
     }
@@ -291,18 +288,15 @@ impl<'a, N: Net + Clock> Accept for TcpAcceptor<'a, N> {
     }
 }
 
-/// A port that is dialled, with the calls counted, and what went wrong in the last try.
+/// A server that is dialled, with the calls counted, and what went wrong in the last try.
 #[derive(Drop)]
-pub(crate) struct Dialler<'a, N: Net + Clock> {
+pub struct TcpDialler<'a, N: Net + Clock> {
     net: &'a N,
-    host: Host,
-    port: u16,
+    server: Server,
     timeout: Timeout,
-    tally: Tally,
-    given_back: Exchanges,
-    trouble: Option<Trouble>,
+    log: DialLog,
     // It is with the link that is out, if one is.
-    room: Option<&'a mut read_ahead::Room>,
+    room: Option<Box<read_ahead::Room>>,
 }
 
 /// A link that reads ahead, for which there is room while no other one is out.
@@ -310,10 +304,10 @@ pub(crate) struct Dialler<'a, N: Net + Clock> {
 /// # Errors
 ///
 /// Where there is no room.
-fn ahead_of<'a, S: Read + Write + Drop>(
+fn ahead_of<S: Read + Write + Drop>(
     stream: S,
-    room: &mut Option<&'a mut read_ahead::Room>,
-) -> Result<Counted<ReadAhead<'a, S>>, DialFault>
+    room: &mut Option<Box<read_ahead::Room>>,
+) -> Result<Counted<ReadAhead<S>>, DialFault>
     ensures { IfOk result (λ link. (read_by link ≡ nothing_read) × (written_by link ≡ nothing_written)) }
 {
     match room.take() {
@@ -322,27 +316,45 @@ fn ahead_of<'a, S: Read + Write + Drop>(
     }
 }
 
-impl<'a, N: Net + Clock> Dialler<'a, N> {
-    /// No call yet. The room is lent to one link after another.
-    pub(crate) fn new(
+impl<'a, N: Net + Clock> TcpDialler<'a, N> {
+    /// Returns a device that dials a server, at which no call was made yet. Within `timeout` a connection has to be
+    /// made, a link's handshake is over, and so is each read and write after it.
+    ///
+    /// # Errors
+    ///
+    /// Where there is no memory for what is read ahead.
+    // The room for what is read ahead stands in its frame before it is on the heap.
+    #[inline(never)]
+    pub fn new(
         net: &'a N,
-        host: Host,
-        port: u16,
+        alloc: Global,
+        server: Server,
         timeout: Timeout,
-        room: &'a mut read_ahead::Room,
-    ) -> Dialler<'a, N>
-        ensures { AreOut 0 result.tally.calls result.tally.failures result.given_back.all }
+    ) -> Result<TcpDialler<'a, N>, AllocError>
+        ensures new { IfOk result (λ dialler. dialled (⟦<TcpDialler<'a, N> as Dial>⟧.calls dialler)
+            (⟦<TcpDialler<'a, N> as Dial>⟧.failures dialler) (⟦<TcpDialler<'a, N> as Dial>⟧.given_back dialler)
+            (⟦<TcpDialler<'a, N> as Dial>⟧.trouble dialler) [] ≡ nothing_dialled) }
+        ensures out { IfOk result (λ dialler. AreOut 0 (⟦<TcpDialler<'a, N> as Dial>⟧.calls dialler)
+            (⟦<TcpDialler<'a, N> as Dial>⟧.failures dialler)
+            (⟦<TcpDialler<'a, N> as Dial>⟧.given_back dialler)) }
     {
-        Dialler {
+        let room = Box::new(alloc, [0; read_ahead::ROOM])?;
+        Ok(TcpDialler {
             net,
-            host,
-            port,
+            server,
             timeout,
-            tally: Tally::new(),
-            given_back: Exchanges::new(),
-            trouble: None,
+            log: DialLog::new(),
             room: Some(room),
-        }
+        })
+    }
+
+    /// Dials no more, and returns what is known of the calls that were made.
+    pub fn into_log(self) -> DialLog
+        ensures { dialled_by result [] ≡ dialled (⟦<TcpDialler<'a, N> as Dial>⟧.calls self.entry)
+            (⟦<TcpDialler<'a, N> as Dial>⟧.failures self.entry) (⟦<TcpDialler<'a, N> as Dial>⟧.given_back self.entry)
+            (⟦<TcpDialler<'a, N> as Dial>⟧.trouble self.entry) [] }
+    {
+        self.log
     }
 
     /// A new connection, within a time if there is one.
@@ -351,14 +363,14 @@ impl<'a, N: Net + Clock> Dialler<'a, N> {
     ///
     /// Why there is none.
     fn next_stream(&self, limit: Option<Duration>) -> Result<N::Stream, DialFault> {
-        match &self.host {
+        match &self.server.host {
             Host::Address(address) => {
-                match stream_to(self.net, socket_of(*address, self.port), limit) {
+                match stream_to(self.net, socket_of(*address, self.server.port), limit) {
                     Ok(stream) => Ok(stream),
                     Err(error) => Err(unconnected(&error)),
                 }
             }
-            Host::Name(name) => stream_to_name(self.net, name, self.port, limit),
+            Host::Name(name) => stream_to_name(self.net, name, self.server.port, limit),
         }
     }
 
@@ -381,54 +393,34 @@ impl<'a, N: Net + Clock> Dialler<'a, N> {
     }
 }
 
-impl<'a, N: Net + Clock> Dial for Dialler<'a, N> {
-    type Link = Counted<ReadAhead<'a, TimeLimited<'a, N, N::Stream>>>;
+impl<'a, N: Net + Clock> Dial for TcpDialler<'a, N> {
+    type Link = Counted<ReadAhead<TimeLimited<'a, N, N::Stream>>>;
 
-    ghost calls = { λ d. d.tally.calls };
+    ghost calls = { λ d. d.log.calls.calls };
 
-    ghost failures = { λ d. d.tally.failures };
+    ghost failures = { λ d. d.log.calls.failures };
 
-    ghost given_back = { λ d. d.given_back.all };
+    ghost given_back = { λ d. d.log.given_back.all };
 
-    ghost trouble = { λ d. d.trouble };
+    ghost trouble = { λ d. d.log.trouble };
 
-    fn dial(&mut self) -> Result<Counted<ReadAhead<'a, TimeLimited<'a, N, N::Stream>>>, DialFault> {
+    fn dial(&mut self) -> Result<Counted<ReadAhead<TimeLimited<'a, N, N::Stream>>>, DialFault> {
         let dialled = match self.next_limited() {
             Ok(stream) => ahead_of(stream, &mut self.room),
             Err(fault) => Err(fault),
         };
-        self.tally.record(&[], dialled.is_err());
+        self.log.calls.record(&[], dialled.is_err());
         if let Err(fault) = &dialled {
-            self.trouble = Some(Trouble::Undialled(*fault));
+            self.log.trouble = Some(Trouble::Undialled(*fault));
         }
         dialled
     }
 
-    fn hang_up(&mut self, link: Counted<ReadAhead<'a, TimeLimited<'a, N, N::Stream>>>) -> Loss {
-        self.given_back.record(&link);
+    fn hang_up(&mut self, link: Counted<ReadAhead<TimeLimited<'a, N, N::Stream>>>) -> Loss {
+        self.log.given_back.record(&link);
         let loss = link.get_ref().stream().loss();
         self.room = Some(link.into_inner().into_room());
-        self.trouble = Some(Trouble::Lost(loss));
+        self.log.trouble = Some(Trouble::Lost(loss));
         loss
     }
-}
-
-/// Fetches from a port of a host, and returns the exit status.
-pub fn fetch<N: Net + Clock, W: Sink, E: Sink>(
-    net: &N,
-    plan: &mut FetchPlan,
-    output: &mut W,
-    errors: &mut E,
-) -> u8
-    ensures end { (end : FetchEnd) × (trouble : Option Trouble)
-        × FetchesAll end (server_of plan.old) trouble plan.old.report_next result plan.old.client plan.new.client
-        (W.written output.old) (W.written output.new) (E.written errors.old) (E.written errors.new)
-        × (is_some trouble ≡ nat_lt 0 plan.old.tries) }
-    ensures quiet { IsQuiet (server_of plan.old) plan.old.report_next plan.old.client.talk.holes plan.new.client.talk
-        result (E.written errors.old) (E.written errors.new) }
-{
-    let mut room = [0; read_ahead::ROOM];
-    let mut dialler = Dialler::new(net, plan.host, plan.port, plan.timeout, &mut room);
-    let mut sleeper = Sleeper::new(net);
-    fetch_planned(plan, &mut dialler, &mut sleeper, output, errors)
 }

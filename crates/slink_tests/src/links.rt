@@ -16,10 +16,10 @@ use mseed_stream::{Counted, Duplex, Exchanges, Failed, Sink, Source, Tally};
 use slink_feed::{Client, Feed, Mode};
 use slink_links::{
     Accept, Dial, DialFault, EndsHandshake, FetchPlan, ListenFault, Loss, NetworkFault, Pause,
-    ServePlan, TcpAcceptor, Trouble, serve_planned,
+    ServePlan, Server, Sleeper, TcpAcceptor, TcpDialler, Trouble, fetch_planned, serve_planned,
 };
 use slink_wire::{Address, Host, Packet, Timeout};
-use std::alloc::Global;
+use std::alloc::{AllocError, Global};
 use std::io;
 use std::io::{ErrorKind, Read, Write};
 use std::net::Net;
@@ -45,6 +45,26 @@ fn serve<N: Net + Clock, E: Sink>(
         Ok(mut acceptor) => Ok(serve_planned(plan, &mut acceptor, errors)),
         Err(error) => Err(ListenFault::of(&error)),
     }
+}
+
+/// Fetches what a plan says over TCP, and returns the exit status.
+///
+/// # Errors
+///
+/// Where there is no memory; nothing is reported then.
+fn fetch<N: Net + Clock, W: Sink, E: Sink>(
+    host: &N,
+    alloc: Global,
+    plan: &mut FetchPlan,
+    output: &mut W,
+    errors: &mut E,
+) -> Result<u8, AllocError> {
+    let server = Server {
+        host: plan.host,
+        port: plan.port,
+    };
+    let mut dialler = TcpDialler::new(host, alloc, server, plan.timeout)?;
+    Ok(fetch_planned(plan, &mut dialler, &mut Sleeper::new(host), output, errors))
 }
 
 /// The line of a link that failed, where the status says so.

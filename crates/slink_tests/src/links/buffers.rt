@@ -2,11 +2,11 @@
 //! one stream notes each of its calls.
 
 use super::{
-    ALL, line_of, output, packets, plan_of, records, serve, serve_plan_of, taken_by, two_packets,
+    ALL, fetch, line_of, output, packets, plan_of, records, serve, serve_plan_of, taken_by,
+    two_packets,
 };
 use crate::model::{place, pushed, three_pushed};
 use slink_feed::{Client, Feed, Mode};
-use slink_links::fetch;
 use std::alloc::Global;
 use std::cell::Cell;
 use std::io;
@@ -253,8 +253,14 @@ fn is_fetched(wire: &Wire, client: Client, status: u8, records: &[u8]) -> bool {
     let mut plan = plan_of(client, 1, 0);
     let mut written = output(wire.alloc, ALL);
     let mut errors = output(wire.alloc, ALL);
-    let ended = fetch(&End { wire }, &mut plan, &mut written, &mut errors);
-    ended == status
+    let ended = fetch(
+        &End { wire },
+        wire.alloc,
+        &mut plan,
+        &mut written,
+        &mut errors,
+    );
+    ended == Ok(status)
         && taken_by(errors).as_slice() == lines_of_fetch(status)
         && taken_by(written).as_slice() == records
 }

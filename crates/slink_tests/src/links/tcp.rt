@@ -2,14 +2,13 @@
 ghost use Rattle.slink_feed.specs.Session.{Fits};
 
 use super::{
-    ALL, FROM_1, client, output, plan_of, rest_of, serve, serve_plan_of, taken_by, two_packets,
-    two_records,
+    ALL, FROM_1, client, fetch, output, plan_of, rest_of, serve, serve_plan_of, taken_by,
+    two_packets, two_records,
 };
 use crate::live::push;
 use crate::model::three_pushed;
 use mseed_stream::{Counted, Duplex, Sink, write_all_of};
 use slink_feed::{Client, Feed, Session, Turn, fetch_turn, serve_turn};
-use slink_links::fetch;
 use std::alloc::{Allocator, Global};
 use std::cell::Cell;
 use std::io;
@@ -133,8 +132,8 @@ fn fetched_from<N: Net + Clock>(rt: &impl Abort, host: &N, alloc: Global) -> Vec
     let mut plan = plan_of(client(rt), 1, 0);
     let mut records = output(alloc, ALL);
     let mut errors = output(alloc, ALL);
-    let status = fetch(host, &mut plan, &mut records, &mut errors);
-    let is_well = status == 0 && taken_by(errors).is_empty();
+    let status = fetch(host, alloc, &mut plan, &mut records, &mut errors);
+    let is_well = status == Ok(0) && taken_by(errors).is_empty();
     let held = taken_by(records);
     if is_well { held } else { Vec::new(alloc) }
 }

@@ -1,5 +1,5 @@
 use Rattle.std.proofs.Common.{inl, inr, refl}
-use Rattle.mseed_feed.specs.Listened.{heard}
+use Rattle.mseed_feed.specs.Transport.{transport_state}
 use Rattle.mseed_stream.specs.Device.{nothing_read}
 use Rattle.mseed.proofs.Done.{effect, still}
 use Rattle.mseed.proofs.effect.carry_out.Goals as goal
@@ -10,8 +10,8 @@ returns-in-Ok-clause-called g c request asked files asks =
     (g.W.Sink.written c.args.output.now) (g.W.Sink.written c.execute.new.output)
     (g.E.Sink.written c.args.errors.now) (g.E.Sink.written c.command_of.new.errors)
     (g.E.Sink.written c.execute.new.errors)
-    (heard (g.L.Listen.planned c.args.listening.now) (g.L.Listen.came c.args.listening.now))
-    (heard (g.L.Listen.planned c.execute.new.listening) (g.L.Listen.came c.execute.new.listening))
+    (transport_state (g.T.Transport.planned c.args.transport.now) (g.T.Transport.came c.args.transport.now))
+    (transport_state (g.T.Transport.planned c.execute.new.transport) (g.T.Transport.came c.execute.new.transport))
     (c.in-Ok.ensures.called request asked files asks)
     (rw c.deref.ensures.value at c.execute.ensures.done)
 
@@ -55,8 +55,8 @@ returns-in-Ok-clause-unopened g c = (
   ],
 )
 
-pub returns-in-Ok-clause-unlistened : goal.returns-in-Ok-clause-unlistened
-returns-in-Ok-clause-unlistened g c = (
+pub returns-in-Ok-clause-unlinked : goal.returns-in-Ok-clause-unlinked
+returns-in-Ok-clause-unlinked g c = (
   λ mistake given nothing. elim (c.in-Ok.ensures.bad mistake given nothing) [
     | inl command ↦ absurd command
     | inr command ↦ absurd command

@@ -24,7 +24,7 @@ returns-in-Live-clause-done g c =
     rw c.in-Live.is (nothing_read, (c.serve_live_at.ensures.planned, c.serve_live_at.ensures.served, refl))
 
 pub returns-in-Fetch-clause-done : goal.returns-in-Fetch-clause-done
-returns-in-Fetch-clause-done g c = rw c.in-Fetch.is (nothing_read, (c.fetch.ensures, refl))
+returns-in-Fetch-clause-done g c = rw c.in-Fetch.is (nothing_read, c.fetch.ensures)
 
 pub returns-in_ok-run_over_named-in_default-clause-done : goal.returns-in_ok-run_over_named-in_default-clause-done
 returns-in_ok-run_over_named-in_default-clause-done g c =

@@ -1,16 +1,21 @@
+use Rattle.std.proofs.Common.{refl}
+use Rattle.mseed_feed.proofs.Dialled.{fetched_over, none_out}
 use Rattle.mseed_feed.proofs.commands.fetch.Goals as goal
 
-pub returns : goal.returns
-returns g c =
-    let e = c.fetch.ensures.end in record {
-      end = e.0;
-      trouble = e.1;
-      last = c.fetch.new.plan.client;
-      fetched = rw (
-        c.plan_fetch.ensures.client,
-        c.plan_fetch.ensures.report_next,
-        c.plan_fetch.ensures.host,
-        c.plan_fetch.ensures.port,
-      ) at e.2;
-      tried = rw c.plan_fetch.ensures.tries at e.3;
+pub fetch_planned-status-requires : goal.fetch_planned-status-requires
+fetch_planned-status-requires g c = none_out _ _ _ _ _ c.in-Ok.ensures.fresh
+
+pub returns-in-Ok : goal.returns-in-Ok
+returns-in-Ok g c =
+    let e = c.fetch_planned-status.ensures in record {
+      planned = rw c.leave.ensures.planned c.reach.ensures.planned;
+      fetched = rw c.leave.ensures.came
+          (fetched_over _ c.plan_fetch-plan.result c.fetch_planned-status.new.plan _ _ _ _ _ _ _ _ _ _ _ _ _ _ _
+          c.plan_fetch-plan.ensures c.in-Ok.ensures.fresh e.end e.out);
     }
+
+pub returns-in-Err : goal.returns-in-Err
+returns-in-Err g c = record {
+  planned = c.reach.ensures.planned;
+  fetched = rw c.in-Err.ensures.refused (c.refuse_memory.ensures.status, refl, c.refuse_memory.ensures.reported);
+}
